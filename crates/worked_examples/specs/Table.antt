@@ -1,0 +1,62 @@
+-- The worked examples of paper 01 marked P ("Bench examples"): what is asked, and the answer as 01 prints it. Definitions only.
+use mathlib.Core.Bool.{true, false}
+use mathlib.Core.List.{List, [], _∷_, map}
+use Prim.Native.Nat.{ℕ}
+use lib.IntN.{negsuc}
+use lib.Ieee.{Float, fin}
+use lib.ListN.{replicate}
+use Rattle.float1750.specs.Codec as number
+use Rattle.float1750.specs.declared.Decoded as number-answer
+use Rattle.float1750.specs.Double.{bitsOf}
+use Rattle.time_code.specs.Codec as time
+use Rattle.time_code.specs.declared.Decoded as time-answer
+use Rattle.time_code.specs.Fields.{spacecraft, day, hour, minute, second, millisecond, sixteenth}
+
+pub data Question : Type 0 where
+  reads-number : List ℕ → Question  -- six bytes
+  writes-number : Float → Question  -- into six bytes that hold 0
+  reads-time : List ℕ → Question  -- seven bytes
+  has-fields : List ℕ → Question
+
+-- an answer as a list: the refusal number, 0 for none, and what is given with it
+abbrev numberAnswer : number-answer.Decoded → List ℕ
+numberAnswer (number-answer.the-variants.Number v) = 0 ∷ bitsOf v ∷ []
+numberAnswer (number-answer.the-variants.Refused n) = n ∷ []
+
+abbrev timeAnswer : time-answer.Decoded → List ℕ
+timeAnswer (time-answer.the-variants.Time t) = 0 ∷ t .spacecraft ∷ t .instant ∷ []
+timeAnswer (time-answer.the-variants.Refused n) = n ∷ []
+
+unfoldable pub answerTo : Question → List ℕ
+unfolding number.decoded time.decoded
+answerTo (reads-number w) = numberAnswer (number.decoded w)
+answerTo (writes-number v) = number.encodeRefusal v (replicate 6 0) ∷ number.encodeAfter v (replicate 6 0)
+answerTo (reads-time w) = timeAnswer (time.decoded w)
+answerTo (has-fields w) = spacecraft w ∷ day w ∷ hour w ∷ minute w ∷ second w ∷ millisecond w ∷ sixteenth w ∷ []
+
+pub record Example : Type 0 where
+  pub asks : Question
+  pub answer : List ℕ
+
+infix 70 _gives_
+abbrev pub _gives_ : Question → List ℕ → Example
+q gives l = record { asks = q; answer = l }
+
+-- the doubles ±2^−129
+abbrev pub small : Float
+small = fin false 1 (negsuc 128)
+
+abbrev pub minusSmall : Float
+minusSmall = fin true 1 (negsuc 128)
+
+abbrev pub table : List Example
+table =
+    reads-number (0x40 ∷ 0 ∷ 0 ∷ 0x01 ∷ 0 ∷ 0 ∷ []) gives (0 ∷ 0x3FF0_0000_0000_0000 ∷ [])
+    ∷ reads-number (0x80 ∷ 0 ∷ 0 ∷ 0 ∷ 0 ∷ 0 ∷ []) gives (0 ∷ 0xBFF0_0000_0000_0000 ∷ [])
+    ∷ reads-number (0xA0 ∷ 0 ∷ 0 ∷ 0 ∷ 0 ∷ 0 ∷ []) gives (0 ∷ 0xBFE8_0000_0000_0000 ∷ [])
+    ∷ reads-number (0xC0 ∷ 0 ∷ 0 ∷ 0 ∷ 0 ∷ 0 ∷ []) gives (10 ∷ [])
+    ∷ writes-number minusSmall gives (11 ∷ 0 ∷ 0 ∷ 0 ∷ 0 ∷ 0 ∷ 0 ∷ [])
+    ∷ writes-number small gives (0 ∷ 0x40 ∷ 0 ∷ 0 ∷ 0x80 ∷ 0 ∷ 0 ∷ [])
+    ∷ reads-time (0x71 ∷ 0x23 ∷ 0x04 ∷ 0x56 ∷ 0x07 ∷ 0x89 ∷ 0x0F ∷ []) gives (0 ∷ 7 ∷ 170319486255 ∷ [])
+    ∷ has-fields (0x71 ∷ 0x23 ∷ 0x04 ∷ 0x56 ∷ 0x07 ∷ 0x89 ∷ 0x0F ∷ []) gives (7 ∷ 123 ∷ 4 ∷ 56 ∷ 7 ∷ 890 ∷ 15 ∷ [])
+    ∷ []
