@@ -5,9 +5,10 @@ use lib.Ieee.{odd, toBits}
 use Rattle.float1750.specs.Codec.{candidate, wordFor}
 use Rattle.float1750.specs.Codec as number
 use Rattle.float1750.specs.Word.{dyadic}
+use Rattle.labelling.specs.Words.{byteVote}
 use Rattle.time_code.specs.Fields.{isTime}
 use Rattle.worked_examples.specs.Table.{answerTo, table}
 
 pub table-holds : map (λ e. answerTo (e .asks)) table ≡ map (λ e. e .answer) table
-unfolding answerTo odd toBits candidate wordFor number.decoded dyadic isTime
+unfolding answerTo byteVote odd toBits candidate wordFor number.decoded dyadic isTime
 table-holds = refl

@@ -8,11 +8,15 @@ use lib.ListN.{replicate}
 use Rattle.float1750.specs.Codec as number
 use Rattle.float1750.specs.declared.Decoded as number-answer
 use Rattle.float1750.specs.Double.{bitsOf}
+use Rattle.labelling.specs.declared.Word.{Word}
+use Rattle.labelling.specs.declared.Word.the-variants.{Voted, Erased}
+use Rattle.labelling.specs.Words.{byteVote}
 use Rattle.time_code.specs.Codec as time
 use Rattle.time_code.specs.declared.Decoded as time-answer
 use Rattle.time_code.specs.Fields.{spacecraft, day, hour, minute, second, millisecond, sixteenth}
 
 pub data Question : Type 0 where
+  votes : ℕ → ℕ → ℕ → Question  -- three copies
   reads-number : List ℕ → Question  -- six bytes
   writes-number : Float → Question  -- into six bytes that hold 0
   reads-time : List ℕ → Question  -- seven bytes
@@ -27,8 +31,14 @@ abbrev timeAnswer : time-answer.Decoded → List ℕ
 timeAnswer (time-answer.the-variants.Time t) = 0 ∷ t .spacecraft ∷ t .instant ∷ []
 timeAnswer (time-answer.the-variants.Refused n) = n ∷ []
 
+-- a word, or nothing where the group is split
+abbrev wordAnswer : Word → List ℕ
+wordAnswer (Voted n) = n ∷ []
+wordAnswer Erased = []
+
 unfoldable pub answerTo : Question → List ℕ
-unfolding number.decoded time.decoded
+unfolding byteVote number.decoded time.decoded
+answerTo (votes a b c) = wordAnswer (byteVote a b c)
 answerTo (reads-number w) = numberAnswer (number.decoded w)
 answerTo (writes-number v) = number.encodeRefusal v (replicate 6 0) ∷ number.encodeAfter v (replicate 6 0)
 answerTo (reads-time w) = timeAnswer (time.decoded w)
@@ -51,7 +61,11 @@ minusSmall = fin true 1 (negsuc 128)
 
 abbrev pub table : List Example
 table =
-    reads-number (0x40 ∷ 0 ∷ 0 ∷ 0x01 ∷ 0 ∷ 0 ∷ []) gives (0 ∷ 0x3FF0_0000_0000_0000 ∷ [])
+    votes 5 5 9 gives (5 ∷ [])
+    ∷ votes 9 5 5 gives (5 ∷ [])
+    ∷ votes 5 9 5 gives (5 ∷ [])
+    ∷ votes 1 2 3 gives []
+    ∷ reads-number (0x40 ∷ 0 ∷ 0 ∷ 0x01 ∷ 0 ∷ 0 ∷ []) gives (0 ∷ 0x3FF0_0000_0000_0000 ∷ [])
     ∷ reads-number (0x80 ∷ 0 ∷ 0 ∷ 0 ∷ 0 ∷ 0 ∷ []) gives (0 ∷ 0xBFF0_0000_0000_0000 ∷ [])
     ∷ reads-number (0xA0 ∷ 0 ∷ 0 ∷ 0 ∷ 0 ∷ 0 ∷ []) gives (0 ∷ 0xBFE8_0000_0000_0000 ∷ [])
     ∷ reads-number (0xC0 ∷ 0 ∷ 0 ∷ 0 ∷ 0 ∷ 0 ∷ []) gives (10 ∷ [])

@@ -1,0 +1,137 @@
+// Reads an unpacked PCD stream in pieces: voted words, minor frames, major frames, and a tally of every byte (paper 01, "From bytes to
+// words" to "The tally and one call"). The claim about every list of calls is the contract of `fresh`.
+mod groups;
+mod major;
+mod minor;
+mod order;
+mod run;
+
+ghost use mathlib.Core.Path.{_≡_};
+ghost use mathlib.Core.Bool.{true};
+ghost use Prim.Native.Nat.{_+_, _≤_, _^_};
+ghost use lib.ListN.{length};
+ghost use Rattle.labelling.specs.Words.{byteVote};
+ghost use Rattle.labelling.specs.Once.{FreshPromise};
+ghost use Rattle.labelling.specs.Order.{inOrder};
+ghost use Rattle.reader.specs.Shapes.{tallyOf, callOf, refusedWith, TakePromise};
+pub use groups::vote;
+use labelling::Framing;
+use labelling::Groups;
+use labelling::Runs;
+use labelling::Tally;
+pub use order::in_order;
+use run::Layers;
+
+// The answer of a call.
+pub struct Taken {
+    // 0, or the number of the refusal: 1, the tally is not in order; 2, the area is not 16,384 bytes; 3, too many bytes.
+    pub refusal: u8,
+    // How many bytes of the piece were taken: all, or as far as the byte that completes a major frame.
+    pub taken: usize,
+    // Whether a major frame is complete; the area holds it.
+    pub complete: bool,
+    pub tally: Tally,
+}
+
+// A tally of no bytes. What it promises is demand 3: over every list of calls of `take` that begins with it, each major frame of the
+// bytes is paid exactly once, and each count is that of the labelling of the bytes.
+pub fn fresh() -> Tally
+    ensures { λ r. ⌜ FreshPromise byteVote r ⌝ }
+{
+    Tally {
+        groups: Groups {
+            bytes: 0,
+            fill: 0,
+            stray: 0,
+            voted: 0,
+            split: 0,
+            open: 0,
+            first: 0,
+            second: 0,
+        },
+        framing: Framing {
+            hunted: 0,
+            good: 0,
+            damaged: 0,
+            unsynced: 0,
+            placed: 0,
+            hunting: true,
+            matched: 0,
+            erasure: false,
+        },
+        runs: Runs {
+            majors: 0,
+            broken: 0,
+            loose: 0,
+            building: 0,
+        },
+        frame: [0u8; 128],
+    }
+}
+
+// Takes a piece of the stream, of any length, and puts the minor frames of a run into the area. A refusal takes 0 bytes, returns the
+// tally unchanged and writes nothing.
+pub fn take(t: Tally, piece: &[u8], area: &mut [u8]) -> Taken
+    ensures { λ r. ⌜ TakePromise (callOf t (now (piece .entry)) (now (area .entry))) r (now (area .exit)) ⌝ }
+{
+    if !in_order(t) {
+        return refused(t, 1);
+    }
+    if area.len() != 16384 {
+        return refused(t, 2);
+    }
+    if order::LIMIT - t.groups.bytes < piece.len() as u64 {
+        return refused(t, 3);
+    }
+    accepted(t, piece, area)
+}
+
+fn refused(t: Tally, number: u8) -> Taken
+    ensures { λ r. ⌜ r ≡ refusedWith t number ⌝ }
+{
+    Taken {
+        refusal: number,
+        taken: 0,
+        complete: false,
+        tally: t,
+    }
+}
+
+// The tally is taken apart once a call.
+fn accepted(t: Tally, piece: &[u8], area: &mut [u8]) -> Taken
+    requires { ⌜ (inOrder t ≡ true) × (length (now area) ≡ 16384) × (t .groups .bytes + length (now piece) ≤ 2 ^ 40) ⌝ }
+    ensures { λ r. ⌜ TakePromise (callOf t (now (piece .entry)) (now (area .entry))) r (now (area .exit)) ⌝ }
+{
+    let groups = t.groups;
+    let framing = t.framing;
+    let runs = t.runs;
+    let mut frame = t.frame;
+    let layers = Layers {
+        groups: groups,
+        framing: framing,
+        runs: runs,
+    };
+    let r = run::run(layers, piece, &mut frame, area);
+    let left = r.layers;
+    let tally = together(left, frame);
+    Taken {
+        refusal: 0,
+        taken: r.taken,
+        complete: r.complete,
+        tally: tally,
+    }
+}
+
+fn together(l: Layers, frame: [u8; 128]) -> Tally
+    ensures { λ r. ⌜ r ≡ tallyOf l frame ⌝ }
+{
+    let groups = l.groups;
+    let framing = l.framing;
+    let runs = l.runs;
+    Tally {
+        groups: groups,
+        framing: framing,
+        runs: runs,
+        frame: frame,
+    }
+}

@@ -1,0 +1,111 @@
+// What is written of a stream.
+use crate::Reading;
+use labelling::Tally;
+use libc::STDOUT_FILENO;
+
+const MODULUS: u64 = 4_294_967_291;
+
+// One number more in a checksum.
+pub(crate) fn mix(h: u64, n: u64) -> u64 {
+    ((h % MODULUS) * 31 + n % MODULUS) % MODULUS
+}
+
+pub(crate) fn bit(b: bool) -> u64 {
+    if b {
+        return 1;
+    }
+    0
+}
+
+pub(crate) fn heading(length: usize, piece: usize) {
+    field(b"stream of ", length as u64);
+    field(b" bytes in pieces of ", piece as u64);
+    put(b"\n");
+}
+
+// A line for a major frame that is paid: how many bytes are taken, and the area.
+pub(crate) fn paid(complete: bool, bytes: u64, area: &[u8]) {
+    if complete {
+        field(b"paid at ", bytes);
+        field(b" area ", checksum(area));
+        put(b"\n");
+    }
+}
+
+pub(crate) fn whole(r: Reading, area: &[u8]) {
+    let t = r.tally;
+    groups(t);
+    framing(t);
+    runs(t);
+    kept(t);
+    field(b"area ", checksum(area));
+    field(b" calls ", r.calls);
+    field(b" answers ", r.answers);
+    field(b" refused 2: ", r.refused);
+    field(b" otherwise: ", r.otherwise);
+    put(b"\n");
+}
+
+fn groups(t: Tally) {
+    field(b"bytes ", t.groups.bytes);
+    field(b" fill ", t.groups.fill);
+    field(b" stray ", t.groups.stray);
+    field(b" voted ", t.groups.voted);
+    field(b" split ", t.groups.split);
+    field(b" open ", t.groups.open);
+}
+
+fn framing(t: Tally) {
+    field(b" hunted ", t.framing.hunted);
+    field(b" good ", t.framing.good);
+    field(b" damaged ", t.framing.damaged);
+    field(b" unsynced ", t.framing.unsynced);
+    field(b" placed ", t.framing.placed);
+}
+
+fn runs(t: Tally) {
+    field(b" majors ", t.runs.majors);
+    field(b" broken ", t.runs.broken);
+    field(b" loose ", t.runs.loose);
+    field(b" building ", t.runs.building);
+    put(b"\n");
+}
+
+// What the tally holds beside the counts.
+fn kept(t: Tally) {
+    field(b"hunting ", bit(t.framing.hunting));
+    field(b" match ", t.framing.matched);
+    field(b" hole ", bit(t.framing.erasure));
+    field(b" copies ", t.groups.first as u64);
+    field(b" ", t.groups.second as u64);
+    field(b" frame ", frame_checksum(t));
+    put(b"\n");
+}
+
+fn frame_checksum(t: Tally) -> u64 {
+    let frame = t.frame;
+    checksum(&frame)
+}
+
+fn checksum(bytes: &[u8]) -> u64 {
+    let mut h: u64 = 0;
+    let mut i: usize = 0;
+    while i < bytes.len() {
+        h = mix(h, wide(bytes[i]));
+        i += 1;
+    }
+    h
+}
+
+fn wide(b: u8) -> u64 {
+    b as u64
+}
+
+fn field(name: &[u8], n: u64) {
+    put(name);
+    io::print_decimal(STDOUT_FILENO, n);
+}
+
+fn put(text: &[u8]) {
+    io::write_all(STDOUT_FILENO, text);
+}

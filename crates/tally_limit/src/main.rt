@@ -1,0 +1,370 @@
+// The reader at its edges: the limit of 2^40 bytes, the order of the refusals, and each clause of 'in order' (paper 01, "The tally and one
+// call" and "Refusal numbers"). The file stdout was written by hand from the paper, not taken from a run.
+//
+// A line says what a call answers: the refusal, the bytes taken, whether a major frame is complete, the bytes of the tally that comes back,
+// whether that is the tally that went in, and how many bytes of the area the call changed.
+mod show;
+
+use labelling::Tally;
+use show::call;
+
+const LIMIT: u64 = 1 << 40;
+
+const ONE_LESS: u64 = LIMIT - 1;
+
+const THREE_LESS: u64 = LIMIT - 3;
+
+// A byte below the limit, less the lead-in, 127 frames, 127 words of the next, and an open group.
+const LEFT_FOR_FILL: u64 = LIMIT - 65548;
+
+const ONE_MORE: u64 = LIMIT + 1;
+
+const FOUR_MORE: u64 = LIMIT + 4;
+
+const P24: u64 = 1 << 24;
+
+const P31: u64 = 1 << 31;
+
+const P38: u64 = 1 << 38;
+
+const ONE_ABOVE_P38: u64 = P38 + 1;
+
+const P57: u64 = 1 << 57;
+
+const P62: u64 = 1 << 62;
+
+const P63: u64 = 1 << 63;
+
+const AREA: usize = 16384;
+
+fn main() {
+    limit();
+    last_byte();
+    order();
+    order_in_order();
+    limits_of_counts();
+    counts_together();
+    wrapping_groups();
+    wrapping_frames();
+    bytes_sum();
+    words_sum();
+    frames_sum();
+    open();
+    placed();
+    building();
+    matched();
+    hunting();
+    hole();
+    free();
+}
+
+fn limit() {
+    show::put(b"The limit of 2^40 bytes\n");
+    let mut t = reader::fresh();
+    t.groups.bytes = THREE_LESS;
+    t.groups.fill = THREE_LESS;
+    call(b"3 bytes below the limit, 4 bytes", t, 4, AREA);
+    call(b"3 bytes below the limit, 2 bytes", t, 2, AREA);
+    let full = call(b"3 bytes below the limit, 3 bytes", t, 3, AREA);
+    call(b"at the limit, 1 byte", full, 1, AREA);
+    call(b"at the limit, 4 bytes", full, 4, AREA);
+    call(b"at the limit, no byte", full, 0, AREA);
+}
+
+// One byte below the limit, and one byte short of a major frame.
+fn last_byte() {
+    let mut t = reader::fresh();
+    t.groups.bytes = ONE_LESS;
+    t.groups.fill = LEFT_FOR_FILL;
+    t.groups.voted = 16386;
+    t.groups.open = 3;
+    t.groups.first = 0x77;
+    t.groups.second = 0x77;
+    t.framing.hunted = 3;
+    t.framing.hunting = false;
+    t.framing.good = 127;
+    t.framing.placed = 127;
+    t.runs.building = 127;
+    t.frame[0] = 0xFA;
+    t.frame[1] = 0xF3;
+    t.frame[2] = 0x20;
+    t.frame[65] = 127;
+    call(
+        b"a major frame that the byte after the limit would complete, 2 bytes",
+        t,
+        2,
+        AREA,
+    );
+    let paid = call(
+        b"a major frame that the byte at the limit completes, 1 byte",
+        t,
+        1,
+        AREA,
+    );
+    call(b"after it, 1 byte", paid, 1, AREA);
+    call(b"after it, no byte", paid, 0, AREA);
+}
+
+// A tally that is not in order.
+fn order() {
+    show::put(b"The order of the refusals\n");
+    let mut t = reader::fresh();
+    t.groups.bytes = LIMIT;
+    t.groups.fill = LIMIT;
+    t.framing.matched = 3;
+    call(b"not in order, wrong area, too long", t, 1, 16383);
+    call(b"not in order, wrong area", t, 0, 16383);
+    call(b"not in order, too long", t, 1, AREA);
+    call(b"not in order", t, 0, AREA);
+}
+
+fn order_in_order() {
+    let mut t = reader::fresh();
+    t.groups.bytes = LIMIT;
+    t.groups.fill = LIMIT;
+    call(b"a byte too little area, too long", t, 1, 16383);
+    call(b"a byte too much area, too long", t, 1, 16385);
+    call(b"no area, too long", t, 1, 0);
+    call(b"a byte too little area, no byte", t, 0, 16383);
+    call(b"a byte too much area, no byte", t, 0, 16385);
+    call(b"too long", t, 1, AREA);
+    call(b"none of these", t, 0, AREA);
+}
+
+// A call with no byte: is the tally in order?
+fn asked(name: &[u8], t: Tally) {
+    call(name, t, 0, AREA);
+}
+
+fn limits_of_counts() {
+    show::put(b"Each count is at most 2^40\n");
+    let mut t = reader::fresh();
+    t.groups.bytes = LIMIT;
+    t.groups.fill = LIMIT;
+    asked(b"bytes and fill 2^40", t);
+    t.groups.bytes = ONE_MORE;
+    t.groups.fill = ONE_MORE;
+    asked(b"bytes and fill 2^40 + 1", t);
+    t.groups.bytes = LIMIT;
+    t.groups.fill = 0;
+    t.groups.stray = LIMIT;
+    asked(b"bytes and stray 2^40", t);
+    t.groups.bytes = ONE_MORE;
+    t.groups.stray = ONE_MORE;
+    asked(b"bytes and stray 2^40 + 1", t);
+}
+
+// Counts of words and frames whose bytes come to 2^40, and to one group more.
+fn counts_together() {
+    let mut t = reader::fresh();
+    t.groups.bytes = LIMIT;
+    t.groups.voted = P38;
+    t.framing.hunted = P38;
+    asked(b"2^38 words, all hunted", t);
+    t.framing.hunted = 0;
+    t.framing.good = P31;
+    t.runs.majors = P24;
+    asked(b"2^24 major frames", t);
+    t.groups.bytes = FOUR_MORE;
+    t.groups.voted = ONE_ABOVE_P38;
+    t.framing.hunted = 1;
+    asked(b"2^24 major frames and a hunted word", t);
+}
+
+// Counts far above the limit, by which a sum modulo 2^64 would hold.
+fn wrapping_groups() {
+    let mut t = reader::fresh();
+    t.groups.fill = P63;
+    t.groups.stray = P63;
+    asked(b"bytes 0, fill and stray 2^63", t);
+    t.groups.fill = 0;
+    t.groups.stray = 0;
+    t.groups.voted = P62;
+    t.framing.hunted = P62;
+    asked(b"bytes 0, voted and hunted 2^62", t);
+    t.groups.voted = 0;
+    t.groups.split = P62;
+    asked(b"bytes 0, split and hunted 2^62", t);
+}
+
+fn wrapping_frames() {
+    let mut t = reader::fresh();
+    t.framing.damaged = P57;
+    asked(b"no word, damaged 2^57", t);
+    t.framing.damaged = 0;
+    t.framing.unsynced = P57;
+    asked(b"no word, unsynced 2^57", t);
+    t.framing.unsynced = 0;
+    t.framing.good = P57;
+    t.runs.loose = P57;
+    asked(b"no word, good and loose 2^57", t);
+    t.framing.good = 0;
+    t.runs.loose = 0;
+    t.runs.majors = P57;
+    asked(b"no good frame, majors 2^57", t);
+    t.runs.majors = 0;
+    t.runs.broken = P63;
+    t.runs.loose = P63;
+    asked(b"no good frame, broken and loose 2^63", t);
+}
+
+fn bytes_sum() {
+    show::put(b"bytes = fill + stray + 4 * voted + 4 * split + open\n");
+    let mut t = reader::fresh();
+    t.groups.fill = 10;
+    t.groups.stray = 20;
+    t.groups.voted = 2;
+    t.groups.split = 3;
+    t.groups.open = 1;
+    t.framing.hunted = 5;
+    t.groups.bytes = 50;
+    asked(b"10 + 20 + 8 + 12 + 1, bytes 50", t);
+    t.groups.bytes = 51;
+    asked(b"10 + 20 + 8 + 12 + 1, bytes 51", t);
+    t.groups.bytes = 52;
+    asked(b"10 + 20 + 8 + 12 + 1, bytes 52", t);
+}
+
+fn words_sum() {
+    show::put(b"voted + split = hunted + 128 * (good + damaged + unsynced) + placed\n");
+    let mut t = reader::fresh();
+    t.groups.bytes = 1592;
+    t.groups.voted = 300;
+    t.groups.split = 98;
+    t.framing.hunting = false;
+    t.framing.good = 1;
+    t.framing.damaged = 1;
+    t.framing.unsynced = 1;
+    t.framing.placed = 8;
+    t.runs.loose = 1;
+    t.framing.hunted = 5;
+    asked(b"300 + 98 words, hunted 5 + 128 * 3 + 8", t);
+    t.framing.hunted = 6;
+    asked(b"300 + 98 words, hunted 6 + 128 * 3 + 8", t);
+    t.framing.hunted = 7;
+    asked(b"300 + 98 words, hunted 7 + 128 * 3 + 8", t);
+}
+
+fn frames_sum() {
+    show::put(b"good = 128 * majors + broken + loose + building\n");
+    let mut t = reader::fresh();
+    t.groups.bytes = 68620;
+    t.groups.voted = 17155;
+    t.framing.hunting = false;
+    t.framing.hunted = 3;
+    t.framing.good = 134;
+    t.runs.majors = 1;
+    t.runs.broken = 1;
+    t.runs.building = 2;
+    t.runs.loose = 2;
+    asked(b"good 134, 128 * 1 + 1 + 2 + 2", t);
+    t.runs.loose = 3;
+    asked(b"good 134, 128 * 1 + 1 + 3 + 2", t);
+    t.runs.loose = 4;
+    asked(b"good 134, 128 * 1 + 1 + 4 + 2", t);
+}
+
+fn open() {
+    show::put(b"open is at most 3\n");
+    let mut t = reader::fresh();
+    t.groups.bytes = 3;
+    t.groups.open = 3;
+    asked(b"open 3", t);
+    t.groups.bytes = 4;
+    t.groups.open = 4;
+    asked(b"open 4", t);
+}
+
+fn placed() {
+    show::put(b"placed is at most 127\n");
+    let mut t = reader::fresh();
+    t.groups.bytes = 520;
+    t.groups.voted = 130;
+    t.framing.hunting = false;
+    t.framing.hunted = 3;
+    t.framing.placed = 127;
+    asked(b"placed 127", t);
+    t.groups.bytes = 524;
+    t.groups.voted = 131;
+    t.framing.placed = 128;
+    asked(b"placed 128", t);
+}
+
+fn building() {
+    show::put(b"building is at most 127\n");
+    let mut t = reader::fresh();
+    t.groups.bytes = 65036;
+    t.groups.voted = 16259;
+    t.framing.hunting = false;
+    t.framing.hunted = 3;
+    t.framing.good = 127;
+    t.runs.building = 127;
+    asked(b"building 127", t);
+    t.groups.bytes = 65548;
+    t.groups.voted = 16387;
+    t.framing.good = 128;
+    t.runs.building = 128;
+    asked(b"building 128", t);
+}
+
+fn matched() {
+    show::put(b"the match is at most 2, and 0 out of hunting\n");
+    let mut t = reader::fresh();
+    t.groups.bytes = 12;
+    t.groups.voted = 3;
+    t.framing.hunted = 3;
+    t.framing.matched = 2;
+    asked(b"match 2", t);
+    t.framing.matched = 3;
+    asked(b"match 3", t);
+    t.framing.hunting = false;
+    t.framing.matched = 1;
+    asked(b"match 1 out of hunting", t);
+    t.framing.matched = 0;
+    asked(b"match 0 out of hunting", t);
+}
+
+fn hunting() {
+    show::put(b"placed and building are 0 while hunting\n");
+    let mut t = reader::fresh();
+    t.groups.bytes = 4;
+    t.groups.voted = 1;
+    t.framing.placed = 1;
+    asked(b"placed 1 while hunting", t);
+    t.framing.hunting = false;
+    asked(b"placed 1 out of hunting", t);
+    t.groups.bytes = 512;
+    t.groups.voted = 128;
+    t.framing.placed = 0;
+    t.framing.good = 1;
+    t.runs.building = 1;
+    asked(b"building 1 out of hunting", t);
+    t.framing.hunting = true;
+    asked(b"building 1 while hunting", t);
+    t.runs.building = 0;
+    t.runs.broken = 1;
+    asked(b"building 0 while hunting", t);
+}
+
+fn hole() {
+    show::put(b"no hole is marked when placed is 0\n");
+    let mut t = reader::fresh();
+    t.framing.hunting = false;
+    t.framing.erasure = true;
+    asked(b"a hole, placed 0", t);
+    t.groups.bytes = 4;
+    t.groups.split = 1;
+    t.framing.placed = 1;
+    asked(b"a hole, placed 1", t);
+    t.framing.erasure = false;
+    asked(b"no hole, placed 1", t);
+}
+
+fn free() {
+    show::put(b"nothing is asked of the copies and the frame\n");
+    let mut t = reader::fresh();
+    t.groups.first = 0xFF;
+    t.groups.second = 0xFE;
+    t.frame = [0xFDu8; 128];
+    asked(b"any copies, any frame", t);
+}
