@@ -1,0 +1,157 @@
+// What is written of a call and of a reading.
+ghost use Prim.Native.Nat.{_≤_};
+ghost use lib.ListN.{length};
+use crate::reel::Reading;
+use labelling::Tally;
+use libc::STDOUT_FILENO;
+
+const MODULUS: u64 = 4_294_967_291;
+
+// The longest output that is shown byte by byte.
+const SHORT: usize = 28;
+
+// The answer of a call, and how many bytes it changed.
+pub(crate) fn answered(answer: u8, changed: u64) {
+    field(b": answer ", answer as u64);
+    field(b" changed ", changed);
+}
+
+// What a minor frame has at its sync and number places: what decides whether it can be written.
+pub(crate) fn minor_frame(spacing: u64, frame: &[u8], room: usize) {
+    field(b"minor frame spacing ", spacing);
+    field(b" length ", frame.len() as u64);
+    put(b" sync ");
+    byte_at(frame, 0);
+    byte_at(frame, 1);
+    byte_at(frame, 2);
+    put(b" number ");
+    byte_at(frame, 65);
+    field(b" output ", room as u64);
+}
+
+// A byte that is not there is shown as two dashes.
+fn byte_at(bytes: &[u8], at: usize) {
+    if at < bytes.len() {
+        hex(bytes[at]);
+        return;
+    }
+    put(b"--");
+}
+
+// Ends the line of a call with the checksum of its output, the first bytes of the space.
+pub(crate) fn output(space: &[u8], room: usize)
+    requires { ⌜ room ≤ length (now space) ⌝ }
+{
+    field(b" checksum ", checksum(&space[0..room]));
+    put(b"\n");
+}
+
+// Ends the line with every byte too, where there are few.
+pub(crate) fn short_output(space: &[u8], room: usize)
+    requires { ⌜ room ≤ length (now space) ⌝ }
+{
+    if room <= SHORT {
+        put(b" bytes ");
+        every_byte(&space[0..room]);
+    }
+    output(space, room);
+}
+
+fn every_byte(bytes: &[u8]) {
+    let mut i: usize = 0;
+    while i < bytes.len() {
+        hex(bytes[i]);
+        i += 1;
+    }
+}
+
+pub(crate) fn written(majors: usize, reel: &[u8]) {
+    field(b"reel of major frames ", majors as u64);
+    field(b" bytes ", reel.len() as u64);
+    field(b" checksum ", checksum(reel));
+    put(b"\n");
+}
+
+pub(crate) fn reading(piece: usize, r: Reading) {
+    field(b"pieces of ", piece as u64);
+    field(b": paid ", r.paid as u64);
+    field(b" compared ", r.compared);
+    field(b" differ ", r.differ);
+    let t = r.tally;
+    faults(t);
+    unfinished(t);
+    counts(t);
+    put(b"\n");
+}
+
+// The counts that are 0 for a written reel.
+fn faults(t: Tally) {
+    field(b" stray ", t.groups.stray);
+    field(b" split ", t.groups.split);
+    field(b" damaged ", t.framing.damaged);
+    field(b" unsynced ", t.framing.unsynced);
+    field(b" broken ", t.runs.broken);
+    field(b" loose ", t.runs.loose);
+}
+
+fn unfinished(t: Tally) {
+    field(b" hunted ", t.framing.hunted);
+    field(b" building ", t.runs.building);
+    field(b" placed ", t.framing.placed);
+    field(b" open ", t.groups.open);
+}
+
+fn counts(t: Tally) {
+    field(b" good ", t.framing.good);
+    field(b" majors ", t.runs.majors);
+    field(b" bytes ", t.groups.bytes);
+    field(b" fill ", t.groups.fill);
+    field(b" voted ", t.groups.voted);
+}
+
+pub(crate) fn checksum(bytes: &[u8]) -> u64 {
+    let mut h: u64 = 0;
+    let mut i: usize = 0;
+    while i < bytes.len() {
+        h = mix(h, wide(bytes[i]));
+        i += 1;
+    }
+    h
+}
+
+// One number more in a checksum.
+fn mix(h: u64, n: u64) -> u64 {
+    ((h % MODULUS) * 31 + n % MODULUS) % MODULUS
+}
+
+fn wide(b: u8) -> u64 {
+    b as u64
+}
+
+pub(crate) fn one_more_if(b: bool, n: u64) -> u64 {
+    if b {
+        return sum(n, 1);
+    }
+    n
+}
+
+// A sum that stops at the largest number.
+pub(crate) fn sum(a: u64, b: u64) -> u64 {
+    if b <= 0xFFFF_FFFF_FFFF_FFFF - a {
+        return a + b;
+    }
+    0xFFFF_FFFF_FFFF_FFFF
+}
+
+fn hex(b: u8) {
+    io::print_hex(STDOUT_FILENO, wide(b), 2);
+}
+
+pub(crate) fn field(name: &[u8], n: u64) {
+    put(name);
+    io::print_decimal(STDOUT_FILENO, n);
+}
+
+pub(crate) fn put(text: &[u8]) {
+    io::write_all(STDOUT_FILENO, text);
+}
