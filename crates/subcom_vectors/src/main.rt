@@ -65,6 +65,7 @@ fn run(record: &[u8], area: &mut [u8], column: &mut [u8]) -> bool {
     }
 }
 
+// The operations that change neither buffer.
 fn ask_one(operation: u8, column: &[u8], a: u64, b: u64, c: u64) {
     match operation {
         4 => kind(first(column, a)),

@@ -1,0 +1,110 @@
+// The proved library, through libbridge.a. The only unsafe code here: each lent slice crosses as its pointer and its length.
+
+use crate::tally::{Tally, FRAME};
+
+const NUMBERS: usize = 20;
+
+extern "C" {
+    fn pcd_fresh(numbers: *mut [u64; NUMBERS], frame: *mut [u8; FRAME]);
+    fn pcd_take(
+        numbers: *mut [u64; NUMBERS],
+        frame: *mut [u8; FRAME],
+        piece: *const u8,
+        piece_len: usize,
+        area: *mut u8,
+        area_len: usize,
+        answer: *mut [u64; 2],
+    ) -> u8;
+    fn pcd_write_lead_in(spacing: u64, out: *mut u8, out_len: usize) -> u8;
+    fn pcd_write_minor_frame(spacing: u64, frame: *const u8, frame_len: usize, out: *mut u8, out_len: usize) -> u8;
+    fn pcd_decode_time(bytes: *const u8, bytes_len: usize, out: *mut [u64; 2]) -> u8;
+    fn pcd_encode_time(spacecraft: u64, instant: u64, out: *mut u8, out_len: usize) -> u8;
+    fn pcd_decode_number(bytes: *const u8, bytes_len: usize, out: *mut f64) -> u8;
+    fn pcd_encode_number(x: f64, out: *mut u8, out_len: usize) -> u8;
+}
+
+// A tally as it crosses.
+#[derive(Clone, Copy, Debug, PartialEq, Eq)]
+pub struct State {
+    pub numbers: [u64; NUMBERS],
+    pub frame: [u8; FRAME],
+}
+
+pub struct Taken {
+    pub refusal: u8,
+    pub taken: u64,
+    pub complete: u64,
+}
+
+pub fn fresh() -> State {
+    let mut s = State { numbers: [u64::MAX; NUMBERS], frame: [0xFF; FRAME] };
+    unsafe { pcd_fresh(&mut s.numbers, &mut s.frame) };
+    s
+}
+
+pub fn take(s: &mut State, piece: &[u8], area: &mut [u8]) -> Taken {
+    let mut answer = [u64::MAX; 2];
+    let refusal = unsafe {
+        pcd_take(
+            &mut s.numbers,
+            &mut s.frame,
+            piece.as_ptr(),
+            piece.len(),
+            area.as_mut_ptr(),
+            area.len(),
+            &mut answer,
+        )
+    };
+    Taken { refusal, taken: answer[0], complete: answer[1] }
+}
+
+// The numbers in the order in which they cross.
+pub fn state_of(t: &Tally) -> State {
+    let numbers = [
+        t.bytes,
+        t.fill,
+        t.stray,
+        t.voted,
+        t.split,
+        t.open,
+        t.first as u64,
+        t.second as u64,
+        t.hunted,
+        t.good,
+        t.damaged,
+        t.unsynced,
+        t.placed,
+        t.hunting as u64,
+        t.matched,
+        t.erasure as u64,
+        t.majors,
+        t.broken,
+        t.loose,
+        t.building,
+    ];
+    State { numbers, frame: t.frame }
+}
+
+pub fn write_lead_in(spacing: u64, out: &mut [u8]) -> u8 {
+    unsafe { pcd_write_lead_in(spacing, out.as_mut_ptr(), out.len()) }
+}
+
+pub fn write_minor_frame(spacing: u64, frame: &[u8], out: &mut [u8]) -> u8 {
+    unsafe { pcd_write_minor_frame(spacing, frame.as_ptr(), frame.len(), out.as_mut_ptr(), out.len()) }
+}
+
+pub fn decode_time(bytes: &[u8], out: &mut [u64; 2]) -> u8 {
+    unsafe { pcd_decode_time(bytes.as_ptr(), bytes.len(), out) }
+}
+
+pub fn encode_time(spacecraft: u64, instant: u64, out: &mut [u8]) -> u8 {
+    unsafe { pcd_encode_time(spacecraft, instant, out.as_mut_ptr(), out.len()) }
+}
+
+pub fn decode_number(bytes: &[u8], out: &mut f64) -> u8 {
+    unsafe { pcd_decode_number(bytes.as_ptr(), bytes.len(), out) }
+}
+
+pub fn encode_number(x: f64, out: &mut [u8]) -> u8 {
+    unsafe { pcd_encode_number(x, out.as_mut_ptr(), out.len()) }
+}

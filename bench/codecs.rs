@@ -1,0 +1,213 @@
+// The writer and the codecs of word 72 once more, from paper 01, and the proved ones held to them. An answer is the bytes or the value, or
+// the number of the refusal.
+
+use crate::bridge;
+use crate::stream::{self, Random};
+use crate::tally::{FRAME, FRAME_SYNC, NUMBER_PLACE};
+
+const TICKS_A_DAY: u64 = 24 * 60 * 60 * 1000 * 16;
+
+fn lead_in(spacing: u64, out: usize) -> Result<Vec<u8>, u8> {
+    let mut bytes = Vec::new();
+    if spacing > 60 {
+        return Err(4);
+    }
+    stream::put_lead_in(&mut bytes, spacing as usize);
+    if out == bytes.len() { Ok(bytes) } else { Err(2) }
+}
+
+fn minor_frame(spacing: u64, frame: &[u8], out: usize) -> Result<Vec<u8>, u8> {
+    if spacing > 60 {
+        return Err(4);
+    }
+    if frame.len() != FRAME || out != FRAME * (4 + spacing as usize) {
+        return Err(2);
+    }
+    if frame[..3] != FRAME_SYNC || frame[NUMBER_PLACE] > 127 {
+        return Err(5);
+    }
+    let mut bytes = Vec::new();
+    for &word in frame {
+        stream::put_word(&mut bytes, word, spacing as usize);
+    }
+    Ok(bytes)
+}
+
+// Spacecraft and instant.
+fn read_time(bytes: &[u8]) -> Result<[u64; 2], u8> {
+    if bytes.len() != 7 {
+        return Err(2);
+    }
+    let halves: Vec<u64> = bytes.iter().flat_map(|&b| [u64::from(b >> 4), u64::from(b & 15)]).collect();
+    if halves[1..13].iter().any(|&digit| digit > 9) {
+        return Err(8);
+    }
+    let number = |digits: &[u64]| digits.iter().fold(0, |n, digit| 10 * n + digit);
+    let (day, hour, minute, second) = (number(&halves[1..4]), number(&halves[4..6]), number(&halves[6..8]), number(&halves[8..10]));
+    if day < 1 || day > 366 || hour > 23 || minute > 59 || second > 59 {
+        return Err(8);
+    }
+    let millisecond = number(&halves[10..13]);
+    let seconds = ((day * 24 + hour) * 60 + minute) * 60 + second;
+    Ok([halves[0], (seconds * 1000 + millisecond) * 16 + halves[13]])
+}
+
+fn write_time(spacecraft: u64, instant: u64, out: usize) -> Result<Vec<u8>, u8> {
+    if out != 7 {
+        return Err(2);
+    }
+    if spacecraft > 15 || instant < TICKS_A_DAY || instant >= 367 * TICKS_A_DAY {
+        return Err(8);
+    }
+    let (sixteenths, milliseconds) = (instant % 16, instant / 16);
+    let seconds = milliseconds / 1000;
+    let digits = format!(
+        "{:03}{:02}{:02}{:02}{:03}",
+        seconds / 86_400,
+        seconds / 3600 % 24,
+        seconds / 60 % 60,
+        seconds % 60,
+        milliseconds % 1000
+    );
+    let mut halves = vec![spacecraft as u8];
+    halves.extend(digits.bytes().map(|d| d - b'0'));
+    halves.push(sixteenths as u8);
+    Ok(halves.chunks(2).map(|pair| 16 * pair[0] + pair[1]).collect())
+}
+
+fn read_number(bytes: &[u8]) -> Result<f64, u8> {
+    if bytes.len() != 6 {
+        return Err(2);
+    }
+    if bytes.iter().all(|&b| b == 0) {
+        return Ok(0.0);
+    }
+    let m = i64::from_be_bytes([bytes[0], bytes[1], bytes[2], bytes[4], bytes[5], 0, 0, 0]) >> 24;
+    if bytes[0] >> 7 == bytes[0] >> 6 & 1 {
+        return Err(10);
+    }
+    // Exact: m has 40 bits, and the power of two is far from a double's limits.
+    Ok(m as f64 * 2f64.powi(i32::from(bytes[3] as i8) - 39))
+}
+
+// Tries every exponent.
+fn write_number(x: f64, out: usize) -> Result<Vec<u8>, u8> {
+    if out != 6 {
+        return Err(2);
+    }
+    if x.to_bits() == 0 {
+        return Ok(vec![0; 6]);
+    }
+    let high = 2f64.powi(39);
+    for e in -128..128 {
+        let m = x * 2f64.powi(39 - e);
+        let normalised = (m >= high / 2.0 && m < high) || (m >= -high && m < -high / 2.0);
+        if normalised && m.fract() == 0.0 {
+            let b = (m as i64).to_be_bytes();
+            return Ok(vec![b[3], b[4], b[5], e as u8, b[6], b[7]]);
+        }
+    }
+    Err(11)
+}
+
+// A writer's answer: the number of the refusal, and the lent bytes afterwards.
+fn written(wanted: Result<Vec<u8>, u8>, lent: &[u8], number: u8, left: &[u8], what: &str) -> Result<(), String> {
+    let (refusal, bytes) = match wanted {
+        Ok(bytes) => (0, bytes),
+        Err(refusal) => (refusal, lent.to_vec()),
+    };
+    if number == refusal && left == bytes {
+        Ok(())
+    } else {
+        Err(format!("{what}: answers {number}, not {refusal}; leaves {left:02X?}, not {bytes:02X?}"))
+    }
+}
+
+fn lent(r: &mut Random, right: usize) -> Vec<u8> {
+    let n = if r.one_in(8) { r.below(2 * right + 2) } else { right };
+    let mut bytes = vec![0; n];
+    r.fill(&mut bytes);
+    bytes
+}
+
+fn write_trials(r: &mut Random) -> Result<(), String> {
+    let spacing = if r.one_in(8) { 50 + r.below(20) as u64 } else { r.below(61) as u64 };
+    let old = lent(r, 3 * (4 + spacing as usize));
+    let mut new = old.clone();
+    let number = bridge::write_lead_in(spacing, &mut new);
+    written(lead_in(spacing, old.len()), &old, number, &new, "write_lead_in")?;
+
+    let number = r.below(140) as u8;
+    let mut frame = stream::frame(r, number, stream::Data::Telling).to_vec();
+    if r.one_in(8) {
+        frame[r.below(3)] = r.telling_byte();
+    }
+    if r.one_in(16) {
+        frame.resize(r.below(260), 0);
+    }
+    let old = lent(r, FRAME * (4 + spacing as usize));
+    let mut new = old.clone();
+    let number = bridge::write_minor_frame(spacing, &frame, &mut new);
+    written(minor_frame(spacing, &frame, old.len()), &old, number, &new, "write_minor_frame")
+}
+
+fn time_trials(r: &mut Random) -> Result<(), String> {
+    const EDGES: [u64; 6] = [0, TICKS_A_DAY - 1, TICKS_A_DAY, 367 * TICKS_A_DAY - 1, 367 * TICKS_A_DAY, u64::MAX];
+    let instant = if r.one_in(6) { EDGES[r.below(6)] } else { r.next() % (368 * TICKS_A_DAY) };
+    let spacecraft = if r.one_in(8) { r.next() } else { r.below(17) as u64 };
+    let old = lent(r, 7);
+    let mut new = old.clone();
+    let number = bridge::encode_time(spacecraft, instant, &mut new);
+    written(write_time(spacecraft, instant, old.len()), &old, number, &new, "encode_time")?;
+
+    if r.one_in(2) && !new.is_empty() {
+        let at = r.below(new.len());
+        new[at] = r.byte();
+    }
+    let before = [r.next(), r.next()];
+    let mut out = before;
+    let number = bridge::decode_time(&new, &mut out);
+    let wanted = read_time(&new);
+    if (number, out) == (wanted.err().unwrap_or(0), wanted.unwrap_or(before)) {
+        Ok(())
+    } else {
+        Err(format!("decode_time of {new:02X?}: answers {number} and {out:?}, not {wanted:?}"))
+    }
+}
+
+fn number_trials(r: &mut Random) -> Result<(), String> {
+    let mut bytes = lent(r, 6);
+    if r.one_in(4) {
+        bytes.iter_mut().for_each(|b| *b = [0, 0x40, 0x80, 0xBF, 0xC0, 0xFF][r.below(6)]);
+    }
+    let before = 0.125;
+    let mut x = before;
+    let number = bridge::decode_number(&bytes, &mut x);
+    let wanted = read_number(&bytes);
+    if (number, x.to_bits()) != (wanted.err().unwrap_or(0), wanted.unwrap_or(before).to_bits()) {
+        return Err(format!("decode_number of {bytes:02X?}: answers {number} and {x}, not {wanted:?}"));
+    }
+
+    const SPECIAL: [f64; 6] = [0.0, -0.0, f64::INFINITY, f64::NEG_INFINITY, f64::NAN, f64::MIN_POSITIVE];
+    let x = match r.below(6) {
+        0 => f64::from_bits(r.next()),
+        1 => SPECIAL[r.below(6)],
+        // Powers of two, at both ends of the exponent.
+        2 => (if r.one_in(2) { -1.0 } else { 1.0 }) * 2f64.powi(r.below(280) as i32 - 140),
+        3 => f64::from_bits(x.to_bits() ^ 1 << r.below(64)),
+        _ => x,
+    };
+    let old = lent(r, 6);
+    let mut new = old.clone();
+    let number = bridge::encode_number(x, &mut new);
+    written(write_number(x, old.len()), &old, number, &new, &format!("encode_number of {x:e}"))
+}
+
+pub fn trials(r: &mut Random) -> Result<(), String> {
+    write_trials(r)?;
+    for _ in 0..8 {
+        time_trials(r)?;
+        number_trials(r)?;
+    }
+    Ok(())
+}

@@ -1,0 +1,61 @@
+// The tally as paper 01 lists it, and the values of the stream that every reader here needs.
+
+pub const SYNC: u8 = 0x16;
+pub const FILL: u8 = 0x32;
+pub const FRAME_SYNC: [u8; 3] = [0xFA, 0xF3, 0x20];
+pub const FRAME: usize = 128;
+pub const NUMBER_PLACE: usize = 65;
+pub const AREA: usize = 16_384;
+
+#[derive(Clone, Copy, Debug, PartialEq, Eq)]
+pub struct Tally {
+    pub bytes: u64,
+    pub fill: u64,
+    pub stray: u64,
+    pub voted: u64,
+    pub split: u64,
+    pub open: u64,
+    pub first: u8,
+    pub second: u8,
+    pub hunted: u64,
+    pub good: u64,
+    pub damaged: u64,
+    pub unsynced: u64,
+    pub placed: u64,
+    pub hunting: bool,
+    pub matched: u64,
+    pub erasure: bool,
+    pub majors: u64,
+    pub broken: u64,
+    pub loose: u64,
+    pub building: u64,
+    pub frame: [u8; FRAME],
+}
+
+impl Tally {
+    pub fn fresh() -> Tally {
+        Tally {
+            bytes: 0,
+            fill: 0,
+            stray: 0,
+            voted: 0,
+            split: 0,
+            open: 0,
+            first: 0,
+            second: 0,
+            hunted: 0,
+            good: 0,
+            damaged: 0,
+            unsynced: 0,
+            placed: 0,
+            hunting: true,
+            matched: 0,
+            erasure: false,
+            majors: 0,
+            broken: 0,
+            loose: 0,
+            building: 0,
+            frame: [0; FRAME],
+        }
+    }
+}

@@ -1,0 +1,38 @@
+-- `bridge::codecs::pcd_decode_time` meets its contract: each arm is a case of the answer. Assumes nothing.
+use Rattle.bridge.proofs.Answers.{time-read, time-refused}
+use borrow.Author.Needs.{needs}
+use Rattle.bridge.proofs.codecs.pcd_decode_time.Statement.{statement}
+use Rattle.bridge.proofs.codecs.pcd_decode_time.Tie as tie
+
+decode-requires : tie.Need-decode-requires
+decode-requires c κs = search needs
+
+enum-known-d : tie.Need-enum-known-d
+enum-known-d c = search needs
+
+element-write-out : tie.Need-element-write-out
+element-write-out c = search needs
+
+element-write-out-2 : tie.Need-element-write-out-2
+element-write-out-2 c = search needs
+
+returns : tie.Need-returns
+returns c = time-read _ _ _ _ (c .before .before .before .decode .ensures) (c .before .d .given .1)
+
+enum-known-d-2 : tie.Need-enum-known-d-2
+enum-known-d-2 c = search needs
+
+returns-2 : tie.Need-returns-2
+returns-2 c = time-refused _ _ _ _ (c .before .before .before .decode .ensures) (c .before .d2 .given .1)
+
+pub pcd-decode-time-spec : {M : Type 1} → statement M
+pcd-decode-time-spec =
+    tie.close
+    (tie.spec
+    decode-requires
+    enum-known-d
+    element-write-out
+    element-write-out-2
+    returns
+    enum-known-d-2
+    returns-2)

@@ -1,0 +1,64 @@
+// The codecs of word 72. The answer is the number of the refusal, 0 for none; a refusal writes nothing.
+ghost use mathlib.Core.Path.{_≡_};
+ghost use Rattle.time_code.specs.Codec.{decodeRefusal as timeRefusal, decoded as timeDecoded};
+ghost use Rattle.time_code.specs.Promise.{EncodePromise as TimeWritten};
+ghost use Rattle.float1750.specs.Codec.{decodeRefusal as numberRefusal, decoded as numberDecoded};
+ghost use Rattle.float1750.specs.Promise.{EncodePromise as NumberWritten};
+ghost use Rattle.bridge.specs.LentPlaces.{timeCode, timeOr, numberOr};
+
+// Reads a time code; `out` gets the spacecraft, then the instant.
+#[no_mangle]
+pub extern "C" fn pcd_decode_time(bytes: &[u8], out: &mut [u64; 2]) -> u8
+    ensures { λ r. ⌜ r ≡ timeRefusal (now (bytes .entry)) ⌝ }
+    ensures { λ _. ⌜ now (out .exit) ≡ timeOr (timeDecoded (now (bytes .entry))) (now (out .entry)) ⌝ }
+{
+    let d = time_code::decode(bytes);
+    match d {
+        time_code::Decoded::Time(t) => {
+            out[0] = t.spacecraft;
+            out[1] = t.instant;
+            return 0;
+        }
+        time_code::Decoded::Refused(number) => {
+            return number;
+        }
+    }
+}
+
+// Writes the time code of a spacecraft and an instant.
+#[no_mangle]
+pub extern "C" fn pcd_encode_time(spacecraft: u64, instant: u64, out: &mut [u8]) -> u8
+    ensures { λ r. ⌜ TimeWritten (timeCode spacecraft instant) (now (out .entry)) (now (out .exit)) r ⌝ }
+{
+    let t = time_code::TimeCode {
+        spacecraft: spacecraft,
+        instant: instant,
+    };
+    time_code::encode(t, out)
+}
+
+// Reads a number of MIL-STD-1750.
+#[no_mangle]
+pub extern "C" fn pcd_decode_number(bytes: &[u8], out: &mut f64) -> u8
+    ensures { λ r. ⌜ r ≡ numberRefusal (now (bytes .entry)) ⌝ }
+    ensures { λ _. ⌜ now (out .exit) ≡ numberOr (numberDecoded (now (bytes .entry))) (now (out .entry)) ⌝ }
+{
+    let d = float1750::decode(bytes);
+    match d {
+        float1750::Decoded::Number(x) => {
+            *out = x;
+            return 0;
+        }
+        float1750::Decoded::Refused(number) => {
+            return number;
+        }
+    }
+}
+
+// Writes the six bytes of a double.
+#[no_mangle]
+pub extern "C" fn pcd_encode_number(x: f64, out: &mut [u8]) -> u8
+    ensures { λ r. ⌜ NumberWritten x (now (out .entry)) (now (out .exit)) r ⌝ }
+{
+    float1750::encode(x, out)
+}

@@ -1,0 +1,186 @@
+// The library for programs in other languages: the reader here, the writer and the codecs of word 72 in their modules. A tally crosses as
+// its twenty numbers and its frame of 128 bytes, which the caller lends; an entry reads them, calls the proved function, and writes them
+// back.
+mod codecs;
+mod writing;
+
+ghost use mathlib.Core.Path.{_≡_};
+ghost use Prim.Native.Nat.{_%_};
+ghost use Rattle.reader.specs.Shapes.{callOf};
+ghost use Rattle.bridge.specs.Crossing.{isSet, flag as flagOf, groupsOf, framingOf, runsOf, tallyOf, withGroups, withFraming, withRuns, withTally, TakeCrossed, FreshCrossed};
+pub use codecs::pcd_decode_number;
+pub use codecs::pcd_decode_time;
+pub use codecs::pcd_encode_number;
+pub use codecs::pcd_encode_time;
+use labelling::Framing;
+use labelling::Groups;
+use labelling::Runs;
+use labelling::Tally;
+pub use writing::pcd_write_lead_in;
+pub use writing::pcd_write_minor_frame;
+
+// Writes a fresh tally.
+#[no_mangle]
+pub extern "C" fn pcd_fresh(numbers: &mut [u64; 20], frame: &mut [u8; 128])
+    ensures { λ _. ⌜ FreshCrossed (now (numbers .entry)) (now (numbers .exit)) (now (frame .exit)) ⌝ }
+{
+    let t = reader::fresh();
+    put_tally(t, numbers, frame);
+}
+
+// Takes a piece of the stream. Returns the number of the refusal, 0 for none; `answer` holds the bytes taken, then 1 where a major frame
+// is complete and 0 where none is.
+#[no_mangle]
+pub extern "C" fn pcd_take(
+    numbers: &mut [u64; 20],
+    frame: &mut [u8; 128],
+    piece: &[u8],
+    area: &mut [u8],
+    answer: &mut [u64; 2],
+) -> u8
+    ensures { λ r. ⌜ TakeCrossed
+        (callOf (tallyOf (now (numbers .entry)) (now (frame .entry))) (now (piece .entry)) (now (area .entry)))
+        r
+        (now (numbers .entry)) (now (numbers .exit)) (now (frame .exit)) (now (area .exit)) (now (answer .entry)) (now (answer .exit)) ⌝ }
+{
+    let t = tally_of(&*numbers, &*frame);
+    let r = reader::take(t, piece, area);
+    let left = r.tally;
+    put_tally(left, numbers, frame);
+    answer[0] = r.taken as u64;
+    answer[1] = flag(r.complete);
+    r.refusal
+}
+
+fn tally_of(n: &[u64; 20], frame: &[u8; 128]) -> Tally
+    ensures { λ r. ⌜ r ≡ tallyOf (now (n .entry)) (now (frame .entry)) ⌝ }
+{
+    let groups = groups_of(n);
+    let framing = framing_of(n);
+    let runs = runs_of(n);
+    let bytes = *frame;
+    Tally {
+        groups: groups,
+        framing: framing,
+        runs: runs,
+        frame: bytes,
+    }
+}
+
+fn put_tally(t: Tally, n: &mut [u64; 20], frame: &mut [u8; 128])
+    ensures { λ _. ⌜ now (n .exit) ≡ withTally t (now (n .entry)) ⌝ }
+    ensures { λ _. ⌜ now (frame .exit) ≡ t .frame ⌝ }
+{
+    let groups = t.groups;
+    put_groups(groups, n);
+    let framing = t.framing;
+    put_framing(framing, n);
+    let runs = t.runs;
+    put_runs(runs, n);
+    let bytes = t.frame;
+    *frame = bytes;
+}
+
+fn groups_of(n: &[u64; 20]) -> Groups
+    ensures { λ r. ⌜ r ≡ groupsOf (now (n .entry)) ⌝ }
+{
+    Groups {
+        bytes: n[0],
+        fill: n[1],
+        stray: n[2],
+        voted: n[3],
+        split: n[4],
+        open: n[5],
+        first: low_byte(n[6]),
+        second: low_byte(n[7]),
+    }
+}
+
+fn put_groups(g: Groups, n: &mut [u64; 20])
+    ensures { λ _. ⌜ now (n .exit) ≡ withGroups g (now (n .entry)) ⌝ }
+{
+    n[0] = g.bytes;
+    n[1] = g.fill;
+    n[2] = g.stray;
+    n[3] = g.voted;
+    n[4] = g.split;
+    n[5] = g.open;
+    n[6] = wide(g.first);
+    n[7] = wide(g.second);
+}
+
+fn framing_of(n: &[u64; 20]) -> Framing
+    ensures { λ r. ⌜ r ≡ framingOf (now (n .entry)) ⌝ }
+{
+    Framing {
+        hunted: n[8],
+        good: n[9],
+        damaged: n[10],
+        unsynced: n[11],
+        placed: n[12],
+        hunting: is_set(n[13]),
+        matched: n[14],
+        erasure: is_set(n[15]),
+    }
+}
+
+fn put_framing(f: Framing, n: &mut [u64; 20])
+    ensures { λ _. ⌜ now (n .exit) ≡ withFraming f (now (n .entry)) ⌝ }
+{
+    n[8] = f.hunted;
+    n[9] = f.good;
+    n[10] = f.damaged;
+    n[11] = f.unsynced;
+    n[12] = f.placed;
+    n[13] = flag(f.hunting);
+    n[14] = f.matched;
+    n[15] = flag(f.erasure);
+}
+
+fn runs_of(n: &[u64; 20]) -> Runs
+    ensures { λ r. ⌜ r ≡ runsOf (now (n .entry)) ⌝ }
+{
+    Runs {
+        majors: n[16],
+        broken: n[17],
+        loose: n[18],
+        building: n[19],
+    }
+}
+
+fn put_runs(r: Runs, n: &mut [u64; 20])
+    ensures { λ _. ⌜ now (n .exit) ≡ withRuns r (now (n .entry)) ⌝ }
+{
+    n[16] = r.majors;
+    n[17] = r.broken;
+    n[18] = r.loose;
+    n[19] = r.building;
+}
+
+// A copy is a byte: what a caller wrote above it is not looked at.
+fn low_byte(x: u64) -> u8
+    ensures { λ r. ⌜ r ≡ x % 256 ⌝ }
+{
+    (x % 256) as u8
+}
+
+fn wide(x: u8) -> u64
+    ensures { λ r. ⌜ r ≡ x ⌝ }
+{
+    x as u64
+}
+
+fn is_set(x: u64) -> bool
+    ensures { λ r. ⌜ r ≡ isSet x ⌝ }
+{
+    x != 0
+}
+
+fn flag(b: bool) -> u64
+    ensures { λ r. ⌜ r ≡ flagOf b ⌝ }
+{
+    if b {
+        return 1;
+    }
+    0
+}
