@@ -17,8 +17,8 @@ exact fraction, and the word of a double by trying every exponent."""
 import os
 import random
 import struct
-import sys
 from fractions import Fraction
+import stored
 
 CRATE = os.path.join("crates", "codec_vectors")
 DAY = 24 * 3600 * 1000 * 16
@@ -183,15 +183,7 @@ def main():
         "stdin": b"".join(bytes((op, length)) + operands.ljust(22, b"\0") for op, length, operands, _ in rows),
         "stdout": "".join(line + "\n" for _, _, _, line in rows).encode(),
     }
-    for name, data in files.items():
-        path = os.path.join(CRATE, name)
-        if sys.argv[1:] == ["--check"]:
-            with open(path, "rb") as f:
-                if f.read() != data:
-                    sys.exit(path + " is not what this script makes")
-        else:
-            with open(path, "wb") as f:
-                f.write(data)
+    stored.keep(CRATE, files)
     print(len(rows), "vectors")
 
 

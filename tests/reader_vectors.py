@@ -25,6 +25,7 @@ import sys
 sys.dont_write_bytecode = True
 import labelling
 from labelling import FILL, SYNC, SYNC_WORDS
+import stored
 
 CRATE = os.path.join("crates", "reader_vectors")
 MODULUS = 4294967291
@@ -194,15 +195,7 @@ def main():
             print("%7d  %s" % (len(data), name))
         return
     made = files()
-    for name, data in made.items():
-        path = os.path.join(CRATE, name)
-        if sys.argv[1:] == ["--check"]:
-            with open(path, "rb") as f:
-                if f.read() != data:
-                    sys.exit(path + " is not what this script makes")
-        else:
-            with open(path, "wb") as f:
-                f.write(data)
+    stored.keep(CRATE, made)
     print(made["stdout"].count(b"stream of "), "readings,", len(made["stdin"]), "bytes")
 
 

@@ -20,10 +20,10 @@ time code as a string of digits, a number as an exact fraction, flags as a strin
 import os
 import random
 import struct
-import sys
 from fractions import Fraction
 
 from word72_items import items
+import stored
 
 CRATE = os.path.join("crates", "subcom_vectors")
 AREA, COLUMN, ROOM = 16384, 128, 160
@@ -261,15 +261,7 @@ def main():
     refusals(bench, rng)
     kinds(bench, rng)
     files = {"stdin": bytes(bench.input), "stdout": "".join(line + "\n" for line in bench.lines).encode()}
-    for name, data in files.items():
-        path = os.path.join(CRATE, name)
-        if sys.argv[1:] == ["--check"]:
-            with open(path, "rb") as f:
-                if f.read() != data:
-                    sys.exit(path + " is not what this script makes")
-        else:
-            with open(path, "wb") as f:
-                f.write(data)
+    stored.keep(CRATE, files)
     print(len(bench.lines), "lines")
 
 

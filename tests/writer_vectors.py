@@ -19,6 +19,7 @@ import os
 import random
 import struct
 import sys
+import stored
 
 sys.dont_write_bytecode = True
 
@@ -222,15 +223,7 @@ def files():
 
 def main():
     made = files()
-    for name, data in made.items():
-        path = os.path.join(CRATE, name)
-        if sys.argv[1:] == ["--check"]:
-            with open(path, "rb") as f:
-                if f.read() != data:
-                    sys.exit(path + " is not what this script makes")
-        else:
-            with open(path, "wb") as f:
-                f.write(data)
+    stored.keep(CRATE, made)
     print(made["stdout"].count(b"answer"), "calls,", made["stdout"].count(b"pieces of"), "readings,", len(made["stdin"]), "bytes")
 
 
