@@ -22,7 +22,7 @@ use Rattle.labelling.specs.Machine.{ByteEvent, closes, afterClosing, afterByte,
 use Rattle.labelling.specs.Order.{inOrder}
 use Rattle.labelling.specs.Calls.{Answer, feed, takeRefusal, answer}
 use Rattle.labelling.proofs.Ordered.{Ordered, ordered, in-order, bytes-within, Room, room, ordered-byte, bytes-byte}
-use Rattle.labelling.proofs.Feeding.{plus, Extent, feed-extent, loop-more, loop-complete}
+use Rattle.labelling.proofs.Feeding.{Extent, feed-extent}
 use Rattle.labelling.proofs.CallLaws.{refused-answer, accepted-answer, answer-ordered}
 use Rattle.reader.specs.declared.major.Ended.{Ended}
 use Rattle.reader.specs.declared.minor.Closing.the-variants.{Nothing, Frame}
@@ -129,56 +129,6 @@ module _ (l : Layers) (frame : List ℕ) (o : inOrder (tallyOf l frame) ≡ true
 
   pub room-runs : RunsRoom (l .runs)
   room-runs = let h = have in let q = ordered t o in omega arith
-
--- ---- a piece
-
-frame-step : (t : Tally) (a : List ℕ) (b : ℕ) → length (byteStep byteVote t a b .tally .frame) ≡ length (t .frame)
-unfolding byteStep
-frame-step t a b = go (wordGiven e)
-  where
-    e : ByteEvent
-    e = byteEvent byteVote (t .groups .«open») (t .groups) b
-
-    stored : (h : Bool) (w : Word) → length (cond h (t .frame) (set (t .frame) (t .framing .placed) (value w))) ≡ length (t .frame)
-    stored true w = refl
-    stored false w = length-set (t .frame) (t .framing .placed) (value w)
-
-    go : (m : Option Word) → length (wordStep m (afterByte e (t .groups) b) t a .tally .frame) ≡ length (t .frame)
-    go none = refl
-    go (some w) = stored (t .framing .hunting) w
-
--- byte i of the piece p, taken from l, frame and a, leaves x, frame′ and a′
-module _ (l : Layers) (frame a p : List ℕ) (i : ℕ) (x : Stepped) (frame′ a′ : List ℕ) (h : i < length p)
-    (e : nowOf x frame′ a′ ≡ byteStep byteVote (tallyOf l frame) a (getD p i 0)) where
-  abbrev before : Answer
-  before = plus i (feed byteVote (tallyOf l frame) a (drop i p))
-
-  pub run-more : x .complete ≡ false → before ≡ plus (i + 1) (feed byteVote (tallyOf (x .layers) frame′) a′ (drop (i + 1) p))
-  run-more q =
-      subst (λ (n : Now). n .complete ≡ false → before ≡ plus (i + 1) (feed byteVote (n .tally) (n .area) (drop (i + 1) p))) (sym e)
-      (loop-more byteVote (tallyOf l frame) a p i h) q
-
-  pub run-complete : x .complete ≡ true → before ≡ record { tally = tallyOf (x .layers) frame′; area = a′; taken = i + 1; complete = true }
-  run-complete q =
-      subst (λ (n : Now). n .complete ≡ true → before ≡ record { tally = n .tally; area = n .area; taken = i + 1; complete = true }) (sym e)
-      (loop-complete byteVote (tallyOf l frame) a p i h) q
-
-  -- the next byte finds a tally in order too
-  pub record Stays : Type 0 where
-    pub order : inOrder (tallyOf (x .layers) frame′) ≡ true
-    pub bytes-are : x .layers .groups .bytes ≡ l .groups .bytes + 1
-    pub frame-length : length frame′ ≡ length frame
-
-  pub run-stays : inOrder (tallyOf l frame) ≡ true → l .groups .bytes < 2 ^ 40 → Stays
-  run-stays o m =
-      let t = tallyOf l frame in
-      let b = getD p i 0 in
-      let more : byteStep byteVote t a b .tally .groups .bytes ≡ l .groups .bytes + 1 = bytes-byte byteVote t a b in
-      record {
-        order = ap (λ (n : Now). inOrder (n .tally)) e ∙ in-order (byteStep byteVote t a b .tally) (ordered-byte byteVote t a b (ordered t o)) (omega arith);
-        bytes-are = ap (λ (n : Now). n .tally .groups .bytes) e ∙ more;
-        frame-length = ap (λ (n : Now). length (n .tally .frame)) e ∙ frame-step t a b;
-      }
 
 -- ---- a call
 

@@ -5,6 +5,7 @@ mod major;
 mod minor;
 mod order;
 mod run;
+mod stretch;
 
 ghost use mathlib.Core.Path.{_≡_};
 ghost use mathlib.Core.Bool.{true};

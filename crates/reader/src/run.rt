@@ -1,19 +1,21 @@
 // The three layers joined: a byte, and a piece.
 ghost use mathlib.Core.Path.{_≡_};
-ghost use mathlib.Core.Bool.{true};
+ghost use mathlib.Core.Bool.{true, false};
 ghost use mathlib.Core.Option.{some};
-ghost use Prim.Native.Nat.{_+_, _≤_, _<_, _^_};
+ghost use Prim.Native.Nat.{_+_, _-_, _≤_, _<_, _^_};
 ghost use lib.ListN.{length};
 ghost use Rattle.labelling.specs.Words.{byteVote};
 ghost use Rattle.labelling.specs.Machine.{wordStep, byteStep};
 ghost use Rattle.labelling.specs.Order.{inOrder};
 ghost use Rattle.labelling.specs.Calls.{feed};
+ghost use Rattle.reader.specs.Onward.{Onward};
 ghost use Rattle.reader.specs.Room.{FramingRoom, RunsRoom};
 ghost use Rattle.reader.specs.Shapes.{tallyOf, nowOf, ranOf};
 use crate::groups;
 use crate::major;
 use crate::minor;
 use crate::minor::Closing;
+use crate::stretch;
 use labelling::Framing;
 use labelling::Groups;
 use labelling::Runs;
@@ -38,7 +40,7 @@ pub(crate) struct Ran {
 }
 
 // A word that a closed group gave.
-fn word_step(l: Layers, w: Word, frame: &mut [u8; 128], area: &mut [u8]) -> Stepped
+pub(crate) fn word_step(l: Layers, w: Word, frame: &mut [u8; 128], area: &mut [u8]) -> Stepped
     requires { ⌜ FramingRoom (l .framing) × RunsRoom (l .runs) ⌝ }
     requires { ⌜ (length (now area) ≡ 16384) × (length (now frame) ≡ 128) ⌝ }
     ensures { λ r. ⌜ nowOf r (now (frame .exit)) (now (area .exit)) ≡ wordStep (some w) (l .groups) (tallyOf l (now (frame .entry))) (now (area .entry)) ⌝ }
@@ -90,6 +92,48 @@ fn byte_step(l: Layers, b: u8, frame: &mut [u8; 128], area: &mut [u8]) -> Steppe
     word_step(next, w, frame, area)
 }
 
+// One byte of the piece.
+fn one_byte(l: Layers, piece: &[u8], at: usize, frame: &mut [u8; 128], area: &mut [u8]) -> Ran
+    requires { ⌜ (inOrder (tallyOf l (now frame)) ≡ true) × (at < length (now piece)) × (l .groups .bytes + (length (now piece) - at) ≤ 2 ^ 40) ⌝ }
+    requires { ⌜ (length (now area) ≡ 16384) × (length (now frame) ≡ 128) ⌝ }
+    ensures { λ r. ⌜ Onward (now (piece .entry)) at (tallyOf l (now (frame .entry))) (now (area .entry)) (r .taken) (tallyOf (r .layers) (now (frame .exit))) (now (area .exit)) (r .complete) ⌝ }
+    ensures { λ r. ⌜ at < r .taken ⌝ }
+{
+    let s = byte_step(l, piece[at], frame, area);
+    let left = s.layers;
+    Ran {
+        layers: left,
+        taken: at + 1,
+        complete: s.complete,
+    }
+}
+
+// The bytes of an open group come one at a time, and so do the last three of a piece, in which no group is whole. Everywhere else a
+// nominal stretch is taken, and the group that ends it.
+fn bytewise(opened: u64, left: usize) -> bool
+    ensures { λ r. ⌜ (r ≡ false → (opened ≡ 0) × (4 ≤ left)) ⌝ }
+{
+    if opened != 0 {
+        return true;
+    }
+    left < 4
+}
+
+// A byte, or a stretch: some of the piece, and no more than one closed frame.
+fn advance(l: Layers, piece: &[u8], at: usize, frame: &mut [u8; 128], area: &mut [u8]) -> Ran
+    requires { ⌜ (inOrder (tallyOf l (now frame)) ≡ true) × (at < length (now piece)) × (l .groups .bytes + (length (now piece) - at) ≤ 2 ^ 40) ⌝ }
+    requires { ⌜ (length (now area) ≡ 16384) × (length (now frame) ≡ 128) ⌝ }
+    ensures { λ r. ⌜ Onward (now (piece .entry)) at (tallyOf l (now (frame .entry))) (now (area .entry)) (r .taken) (tallyOf (r .layers) (now (frame .exit))) (now (area .exit)) (r .complete) ⌝ }
+    ensures { λ r. ⌜ at < r .taken ⌝ }
+{
+    if bytewise(l.groups.open, piece.len() - at) {
+        return one_byte(l, piece, at, frame, area);
+    }
+    let r = stretch::nominal_run(l, piece, at, frame);
+    let next = r.layers;
+    stretch::group_run(next, piece, r.taken, frame, area)
+}
+
 // A piece, as far as the byte that completes a major frame.
 pub(crate) fn run(l: Layers, piece: &[u8], frame: &mut [u8; 128], area: &mut [u8]) -> Ran
     requires { ⌜ (inOrder (tallyOf l (now frame)) ≡ true) × (l .groups .bytes + length (now piece) ≤ 2 ^ 40) ⌝ }
@@ -99,9 +143,9 @@ pub(crate) fn run(l: Layers, piece: &[u8], frame: &mut [u8; 128], area: &mut [u8
     let mut next = l;
     let mut i: usize = 0;
     while i < piece.len() {
-        let s = byte_step(next, piece[i], frame, area);
+        let s = advance(next, piece, i, frame, area);
         next = s.layers;
-        i += 1;
+        i = s.taken;
         if s.complete {
             return Ran {
                 layers: next,

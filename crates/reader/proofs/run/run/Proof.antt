@@ -1,18 +1,18 @@
 -- `reader::run::run` meets its contract: at each turn the rest of the run is the whole run, and the tally is in order. Assumes nothing.
 use native.Mathlib.Omega.{arith}
-use mathlib.Core.Path.{_≡_, sym, _∙_}
-use mathlib.Core.Bool.{true}
+use mathlib.Core.Path.{_≡_, sym, ap, _∙_}
+use mathlib.Core.Bool.{Bool, true, false}
 use mathlib.Core.List.{List}
 use Prim.Native.Nat.{ℕ, _+_, _-_, _≤_, _<_, _^_}
 use lib.ListN.{length, drop}
 use denote.Ref.{now}
 use Rattle.labelling.specs.Words.{byteVote}
 use Rattle.labelling.specs.Order.{inOrder}
-use Rattle.labelling.specs.Calls.{feed}
-use Rattle.labelling.proofs.Feeding.{plus, loop-start, loop-end}
+use Rattle.labelling.specs.Calls.{plus, feed}
+use Rattle.labelling.proofs.Feeding.{loop-start, loop-end}
 use Rattle.reader.specs.declared.run.Layers.{Layers}
+use Rattle.reader.specs.Onward.{goesOn}
 use Rattle.reader.specs.Shapes.{tallyOf}
-use Rattle.reader.proofs.Steps.{run-more, run-complete, run-stays}
 use borrow.Author.Needs.{needs}
 use Rattle.reader.proofs.run.run.Statement.{statement}
 use Rattle.reader.proofs.run.run.Tie as tie
@@ -45,45 +45,41 @@ loop-holds c =
       frame-length = s .pre .1 .1;
     }
 
-shared-slice-read-byte-step : tie.Need-shared-slice-read-byte-step Inv-loop μ-loop
-shared-slice-read-byte-step c = omega arith
-
-byte-step-requires : tie.Need-byte-step-requires Inv-loop μ-loop
-byte-step-requires c κs =
-    let k = c .before .before .before .before .loop .inv in
-    ((k .order, omega arith), (k .area-length, k .frame-length))
-
-add-i : tie.Need-add-i Inv-loop μ-loop
-add-i c = omega arith
+advance-requires : tie.Need-advance-requires Inv-loop μ-loop
+advance-requires c κs =
+    let s = c .before .before .before .before .before .before in
+    let k = c .before .before .before .loop .inv in
+    ((k .order, c .before .before .loop-test .taken, omega (arith, k .bytes-are, s .pre .0 .1)), (k .area-length, k .frame-length))
 
 same-length : tie.Need-same-length Inv-loop μ-loop
 same-length c = search needs
 
 returns : tie.Need-returns Inv-loop μ-loop
 returns c =
-    let k = c .before .before .before .before .before .before .before .before .before .loop in
-    let p = now (c .before .before .before .before .before .before .before .before .before .before .before .before .args .piece) in
-    let x = c .before .before .before .before .byte-step in
-    sym (k .inv .rest ∙ run-complete (k .next) (k .frame) (k .area) p (k .i) (x .result) (x .last .1 .1 .0) (x .last .1 .1 .1 .0) (omega arith) (x .ensures) (c .if1 .taken))
+    let k = c .before .before .before .before .before .before .before .before .loop in
+    let p = now (c .before .before .before .before .before .before .before .before .before .before .before .args .piece) in
+    let x = c .before .before .before .before .advance in
+    let o = x .ensures .0 in
+    sym (k .inv .rest ∙ o .rest ∙ ap (λ (b : Bool). goesOn b p (x .result .taken) (tallyOf (x .result .layers) (x .last .1 .1 .1 .0)) (x .last .1 .1 .1 .1 .0)) (c .if1 .taken))
 
 loop-less : tie.Need-loop-less Inv-loop μ-loop
-loop-less c = omega arith
+loop-less c =
+    let x = c .before .before .before .before .advance in
+    omega (arith, x .ensures .1, x .ensures .0 .within)
 
 loop-again : tie.Need-loop-again Inv-loop μ-loop
 loop-again c =
-    let k = c .before .before .before .before .before .before .before .before .before .loop in
-    let s = c .before .before .before .before .before .before .before .before .before .before .before .before in
-    let p = now (s .args .piece) in
-    let x = c .before .before .before .before .byte-step in
-    let h : k .i < length p = c .before .before .before .before .before .before .before .before .loop-test .taken in
-    let q = run-stays (k .next) (k .frame) (k .area) p (k .i) (x .result) (x .last .1 .1 .0) (x .last .1 .1 .1 .0) h (x .ensures) (k .inv .order) (omega (arith, s .pre .0 .1)) in
+    let k = c .before .before .before .before .before .before .before .before .loop in
+    let p = now (c .before .before .before .before .before .before .before .before .before .before .before .args .piece) in
+    let x = c .before .before .before .before .advance in
+    let o = x .ensures .0 in
     record {
-      rest = k .inv .rest ∙ run-more (k .next) (k .frame) (k .area) p (k .i) (x .result) (x .last .1 .1 .0) (x .last .1 .1 .1 .0) h (x .ensures) (c .if1 .left);
-      order = q .order;
-      bytes-are = omega (arith, q .bytes-are, k .inv .bytes-are);
-      within = omega arith;
-      area-length = x .kept .1 .1 .1 .0 ∙ k .inv .area-length;
-      frame-length = q .frame-length ∙ k .inv .frame-length;
+      rest = k .inv .rest ∙ o .rest ∙ ap (λ (b : Bool). goesOn b p (x .result .taken) (tallyOf (x .result .layers) (x .last .1 .1 .1 .0)) (x .last .1 .1 .1 .1 .0)) (c .if1 .left);
+      order = o .order;
+      bytes-are = omega (arith, o .bytes-are, k .inv .bytes-are);
+      within = o .within;
+      area-length = x .kept .1 .1 .1 .1 .0 ∙ k .inv .area-length;
+      frame-length = o .frame-length;
     }
 
 same-length-2 : tie.Need-same-length-2 Inv-loop μ-loop
@@ -102,9 +98,7 @@ run-spec =
     Inv-loop
     μ-loop
     loop-holds
-    shared-slice-read-byte-step
-    byte-step-requires
-    add-i
+    advance-requires
     same-length
     returns
     loop-less

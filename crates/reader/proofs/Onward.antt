@@ -1,0 +1,228 @@
+-- A byte, a stretch, and one part of a call after another, each as a law over plain values. Assumes nothing.
+use mathlib.Core.Path.{_≡_, refl, sym, ap, _∙_, subst}
+use mathlib.Core.Bool.{Bool, true, false, cond}
+use mathlib.Core.List.{List, [], _∷_}
+use mathlib.Core.Option.{Option, none, some}
+use Prim.Native.Nat.{ℕ, zero, suc, _+_, _*_, _-_, _≤_, _<_, _^_}
+use native.Mathlib.Omega.{arith}
+use lib.Dec.{ltb}
+use lib.ListN.{length, drop, getD, set, length-set}
+use lib.Seq.{sets, getD-set-same}
+use borrow.Author.Tests.{ltb-true, ltb-false}
+use Rattle.labelling.specs.declared.Framing.{Framing}
+use Rattle.labelling.specs.declared.Groups.{Groups}
+use Rattle.labelling.specs.declared.Runs.{Runs}
+use Rattle.labelling.specs.declared.Tally.{Tally}
+use Rattle.labelling.specs.declared.Word.{Word}
+use Rattle.labelling.specs.Words.{SYNC, byteVote}
+use Rattle.labelling.specs.MajorFrames.{value}
+use Rattle.labelling.specs.Machine.{ByteEvent, afterClosing, afterByte, Now, wordStep, wordGiven, byteEvent, byteStep}
+use Rattle.labelling.specs.Order.{inOrder}
+use Rattle.labelling.specs.Calls.{plus, feed}
+use Rattle.labelling.proofs.Ordered.{Ordered, ordered, in-order, bytes-within, ordered-byte, bytes-byte}
+use Rattle.labelling.proofs.Feeding.{loop-more, loop-complete}
+use Rattle.nominal.specs.Stretches.{Byte, Nominal, NoneBegins, Stored, Hunted, Quiet, lastOr}
+use Rattle.nominal.specs.Effect.{PlainSteps, stays, byte, withWords, withQuiet, withPlaced, withHunted, afterQuiet, afterPlaced, afterHunted}
+use Rattle.nominal.proofs.Joining.{nominal-far, nominal-inside, quiet-far, quiet-inside}
+use Rattle.nominal.proofs.Effect.{plain-join, plain-feed, plain-ordered, plain-bytes, group-opens, third-byte, quiet-plain, placed-plain, hunted-plain, opened as openedTally}
+use Rattle.reader.specs.declared.run.Layers.{Layers}
+use Rattle.reader.specs.declared.run.Stepped.{Stepped}
+use Rattle.reader.specs.Onward.{goesOn, Onward, Words, opened}
+use Rattle.reader.specs.Shapes.{tallyOf, nowOf}
+
+-- ---- a byte
+
+frame-byte : (t : Tally) (a : List ℕ) (b : ℕ) → length (byteStep byteVote t a b .tally .frame) ≡ length (t .frame)
+unfolding byteStep
+frame-byte t a b = go (wordGiven e)
+  where
+    e : ByteEvent
+    e = byteEvent byteVote (t .groups .«open») (t .groups) b
+
+    stored : (h : Bool) (w : Word) → length (cond h (t .frame) (set (t .frame) (t .framing .placed) (value w))) ≡ length (t .frame)
+    stored true w = refl
+    stored false w = length-set (t .frame) (t .framing .placed) (value w)
+
+    go : (m : Option Word) → length (wordStep m (afterByte e (t .groups) b) t a .tally .frame) ≡ length (t .frame)
+    go none = refl
+    go (some w) = stored (t .framing .hunting) w
+
+-- byte i of the piece leaves n
+pub now-onward : (p : List ℕ) (i : ℕ) (t : Tally) (a : List ℕ) (n : Now) → n ≡ byteStep byteVote t a (getD p i 0) → i < length p → inOrder t ≡ true
+    → t .groups .bytes < 2 ^ 40 → length (t .frame) ≡ 128 → Onward p i t a (i + 1) (n .tally) (n .area) (n .complete)
+now-onward p i t a n e h o m l =
+    let b = getD p i 0 in
+    let more : byteStep byteVote t a b .tally .groups .bytes ≡ t .groups .bytes + 1 = bytes-byte byteVote t a b in
+    let bytes : n .tally .groups .bytes ≡ t .groups .bytes + 1 = ap (λ (x : Now). x .tally .groups .bytes) e ∙ more in
+    record {
+      rest = go (n .complete) refl;
+      order = ap (λ (x : Now). inOrder (x .tally)) e ∙ in-order (byteStep byteVote t a b .tally) (ordered-byte byteVote t a b (ordered t o)) (omega arith);
+      bytes-are = omega arith;
+      forward = omega arith;
+      within = omega arith;
+      frame-length = ap (λ (x : Now). length (x .tally .frame)) e ∙ frame-byte t a b ∙ l;
+    }
+  where
+    go : (c : Bool) → n .complete ≡ c → plus i (feed byteVote t a (drop i p)) ≡ goesOn c p (i + 1) (n .tally) (n .area)
+    go true q =
+        subst (λ (x : Now). x .complete ≡ true → plus i (feed byteVote t a (drop i p)) ≡ goesOn true p (i + 1) (x .tally) (x .area)) (sym e)
+        (loop-complete byteVote t a p i h) q
+    go false q =
+        subst (λ (x : Now). x .complete ≡ false → plus i (feed byteVote t a (drop i p)) ≡ goesOn false p (i + 1) (x .tally) (x .area)) (sym e)
+        (loop-more byteVote t a p i h) q
+
+-- ---- plain steps
+
+module _ {p a : List ℕ} where
+  plain-inside : {i j : ℕ} {t u : Tally} → PlainSteps p a i t j u → i ≤ length p → (i ≤ j) × (j ≤ length p)
+  plain-inside stays h = (omega arith, h)
+  plain-inside (byte l e n) h = let r = plain-inside n (omega arith) in (omega (arith, r .0), r .1)
+
+  plain-frame : {i j : ℕ} {t u : Tally} → PlainSteps p a i t j u → length (u .frame) ≡ length (t .frame)
+  plain-frame stays = refl
+  plain-frame {i} {t = t} (byte l e n) = plain-frame n ∙ sym (ap (λ (x : Now). length (x .tally .frame)) e) ∙ frame-byte t a (getD p i 0)
+
+-- what a part of a call finds
+pub record Begun (p : List ℕ) (i : ℕ) (t : Tally) : Type 0 where
+  pub order : inOrder t ≡ true
+  pub inside : i ≤ length p
+  pub limit : t .groups .bytes + (length p - i) ≤ 2 ^ 40
+  pub frame-length : length (t .frame) ≡ 128
+
+pub plain-onward : {p a : List ℕ} {i j : ℕ} {t u : Tally} → PlainSteps p a i t j u → Begun p i t → Onward p i t a j u a false
+plain-onward {u = u} n b =
+    let bytes = plain-bytes n in
+    let inside = plain-inside n (b .inside) in
+    record {
+      rest = plain-feed n;
+      order = in-order u (plain-ordered n (ordered _ (b .order))) (omega (arith, b .limit, inside .0, inside .1));
+      bytes-are = bytes;
+      forward = inside .0;
+      within = inside .1;
+      frame-length = plain-frame n ∙ b .frame-length;
+    }
+
+-- ---- one part after another
+
+pub none-onward : {p a : List ℕ} {i : ℕ} {t : Tally} → Begun p i t → Onward p i t a i t a false
+none-onward b = plain-onward stays b
+
+pub onward-join : {p : List ℕ} {i j k : ℕ} {t u v : Tally} {a a′ a″ : List ℕ} {c : Bool} → Onward p i t a j u a′ false → Onward p j u a′ k v a″ c → Onward p i t a k v a″ c
+onward-join g h = record {
+  rest = g .rest ∙ h .rest;
+  order = h .order;
+  bytes-are = omega (arith, g .bytes-are, h .bytes-are);
+  forward = omega (arith, g .forward, h .forward);
+  within = h .within;
+  frame-length = h .frame-length;
+}
+
+-- where four bytes are left, one of the two parts moves on
+pub moved : {p : List ℕ} {i j k : ℕ} {t u v : Tally} {a a′ a″ : List ℕ} {c : Bool} → Onward p i t a j u a′ false → Onward p j u a′ k v a″ c
+    → (j + 4 ≤ length p → j < k) → 4 ≤ length p - i → i < k
+moved {p} {i} {j} {k} g h more room = go (ltb i j) refl
+  where
+    go : (b : Bool) → ltb i j ≡ b → i < k
+    go true e = omega (arith, ltb-true i j e, h .forward)
+    go false e = let same = ltb-false i j e in omega (arith, more (omega (arith, g .forward)), g .forward)
+
+-- what the next part finds
+pub onward-begun : {p : List ℕ} {i j : ℕ} {t u : Tally} {a a′ : List ℕ} {c : Bool} → Onward p i t a j u a′ c → Begun p i t → Begun p j u
+onward-begun g b = record { order = g .order; inside = g .within; limit = omega (arith, g .bytes-are, g .forward, g .within, b .limit); frame-length = g .frame-length }
+
+-- ---- counts added at once
+
+-- n bytes and w words more, with the first copies f and s
+abbrev counted : Groups → ℕ → ℕ → ℕ → ℕ → Groups
+counted g n w f s = record {
+  bytes = g .bytes + n;
+  fill = g .fill + (n - 4 * w);
+  stray = g .stray;
+  voted = g .voted + w;
+  split = g .split;
+  «open» = g .«open»;
+  first = f;
+  second = s;
+}
+
+last-any : (ws : List ℕ) (y z : ℕ) → 0 < length ws → lastOr ws y ≡ lastOr ws z
+last-any [] y z h = absurd (omega arith)
+last-any (x ∷ ws) y z h = refl
+
+module _ (g : Groups) (n : ℕ) (ws : List ℕ) (w x : ℕ) (h : Words ws w x) where
+  pub no-words : w ≡ 0 → counted g n w (g .first) (g .second) ≡ withWords g n ws
+  no-words z = rw (h .count-is) (go ws (sym (h .count-is) ∙ z))
+    where
+      go : (vs : List ℕ) → length vs ≡ 0 → counted g n (length vs) (g .first) (g .second) ≡ withWords g n vs
+      go [] e = refl
+      go (v ∷ vs) e = absurd (omega arith)
+
+  pub some-words : (w ≡ 0 → ⊥) → counted g n w x x ≡ withWords g n ws
+  some-words z =
+      let some : 0 < w = omega (arith, z) in
+      let first : x ≡ lastOr ws (g .first) = h .last-is some ∙ last-any ws 0 (g .first) (omega (arith, h .count-is)) in
+      let second : x ≡ lastOr ws (g .second) = h .last-is some ∙ last-any ws 0 (g .second) (omega (arith, h .count-is)) in
+      rw (h .count-is, ← first, ← second)
+
+-- the last of the words stands in the frame
+last-stored : (ws f : List ℕ) (q : ℕ) → q + length ws ≤ length f → 0 < length ws → getD (sets f q ws) (q + length ws - 1) 0 ≡ lastOr ws 0
+last-stored [] f q h s = absurd (omega arith)
+last-stored (x ∷ []) f q h s = let e : q + 1 - 1 ≡ q = omega arith in rw e (getD-set-same f q x 0 (omega arith))
+last-stored (x ∷ y ∷ vs) f q h s =
+    let e : q + suc (suc (length vs)) - 1 ≡ suc q + suc (length vs) - 1 = omega arith in
+    rw e (last-stored (y ∷ vs) (set f q x) (suc q) (omega (arith, length-set f q x)) (omega arith))
+
+-- ---- stretches
+
+-- the layers with these parts
+abbrev pub layersOf : Groups → Framing → Runs → Layers
+layersOf g f r = record { groups = g; framing = f; runs = r }
+
+module _ (l : Layers) (frame p : List ℕ) (i : ℕ) (b : Begun p i (tallyOf l frame)) (closed : l .groups .«open» ≡ 0) where
+  abbrev t : Tally
+  t = tallyOf l frame
+
+  pub placed-words : {j q : ℕ} {frame′ : List ℕ} (s : Stored p i j (l .framing .placed) q frame frame′) (w x : ℕ) → w ≡ q - l .framing .placed
+      → l .framing .placed ≤ 127 → (0 < q → x ≡ getD frame′ (q - 1) 0) → Words (s .words) w x
+  placed-words {q = q} s w x ew h ex = record {
+    count-is = omega (arith, s .place-is);
+    last-is = λ z.
+        let n = l .framing .placed in
+        let some : 0 < length (s .words) = omega (arith, s .place-is) in
+        let room = s .room h in
+        ex (omega (arith, s .place-is)) ∙ rw (s .frame-is, s .place-is) (last-stored (s .words) frame n (omega (arith, s .place-is, b .frame-length)) some);
+  }
+
+  pub place-onward : {j q : ℕ} {frame′ : List ℕ} (a : List ℕ) (s : Stored p i j (l .framing .placed) q frame frame′) (g : Groups)
+      → l .framing .hunting ≡ false → l .framing .placed ≤ 127 → g ≡ withWords (l .groups) (j - i) (s .words)
+      → Onward p i t a j (tallyOf (layersOf g (withPlaced (l .framing) (length (s .words))) (l .runs)) frame′) a false
+  place-onward {j = j} a s g h r e =
+      rw (e, s .frame-is)
+      (plain-onward (placed-plain {a = a} (s .stretch) t record { closed = closed; places = h; room = omega (arith, s .place-is, s .room r) }) b)
+
+  pub hunt-onward : {j w x : ℕ} (a : List ℕ) (s : Hunted p i j w x) (g : Groups) → l .framing .hunting ≡ true → l .framing .matched ≡ 0
+      → g ≡ withWords (l .groups) (j - i) (s .words) → Onward p i t a j (tallyOf (layersOf g (withHunted (l .framing) w) (l .runs)) frame) a false
+  hunt-onward a s g h m e =
+      rw (e, s .count-is)
+      (plain-onward (hunted-plain {a = a} (s .stretch) t record { closed = closed; hunts = h; unmatched = m; none-begins = s .none-begins }) b)
+
+  pub quiet-onward : {j k : ℕ} (a : List ℕ) → Quiet p i j k → (g : Groups) → g ≡ withQuiet (l .groups) (j - i) k
+      → Onward p i t a j (tallyOf (layersOf g (l .framing) (l .runs)) frame) a false
+  quiet-onward a q g e = rw e (plain-onward (quiet-plain {a = a} q t closed) b)
+
+  -- a quiet stretch, and a group of any copies
+  pub group-onward : (j k x y : ℕ) (a : List ℕ) (w : Word) (g g′ : Groups) (s : Stepped) (frame′ a′ : List ℕ) → Quiet p i j k → Byte p j SYNC → j + 3 < length p
+      → getD p (j + 1) 0 ≡ x → getD p (j + 2) 0 ≡ y → w ≡ byteVote x y (getD p (j + 3) 0) → g ≡ withQuiet (l .groups) (j - i) k → g′ ≡ afterClosing w (opened g x y)
+      → nowOf s frame′ a′ ≡ wordStep (some w) g′ (tallyOf (layersOf g′ (l .framing) (l .runs)) frame) a
+      → Onward p i t a (j + 4) (tallyOf (s .layers) frame′) a′ (s .complete)
+  group-onward j k x y a w g g′ s frame′ a′ q sync h ex ey ew eg eg′ e =
+      let t′ : Tally = afterQuiet t (j - i) k in
+      let third : j + 3 + 1 ≡ j + 4 = omega arith in
+      let first : Byte p (j + 1) x = record { inside = omega arith; is = ex } in
+      let second : Byte p (j + 2) y = record { inside = omega arith; is = ey } in
+      let two : Onward p i t a (j + 3) (openedTally t′ 3 3 x y) a false =
+      plain-onward (plain-join (quiet-plain {a = a} q t closed) (group-opens t′ closed sync first second)) b in
+      let begun : Begun p (j + 3) (openedTally t′ 3 3 x y) = onward-begun two b in
+      let last : nowOf s frame′ a′ ≡ byteStep byteVote (openedTally t′ 3 3 x y) a (getD p (j + 3) 0) =
+      e ∙ rw (eg′, eg, ew) (sym (third-byte t′ a x y (getD p (j + 3) 0))) in
+      onward-join two (rw third at (now-onward p (j + 3) (openedTally t′ 3 3 x y) a (nowOf s frame′ a′) last h (begun .order) (omega (arith, begun .limit)) (begun .frame-length)))

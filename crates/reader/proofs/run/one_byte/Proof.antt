@@ -1,0 +1,32 @@
+-- `reader::run::one_byte` meets its contract: it is a plain step. Assumes nothing.
+use native.Mathlib.Omega.{arith}
+use denote.Ref.{now}
+use Rattle.reader.specs.Shapes.{tallyOf}
+use Rattle.reader.proofs.Onward.{now-onward}
+use Rattle.reader.specs.Shapes.{nowOf}
+use borrow.Author.Needs.{needs}
+use Rattle.reader.proofs.run.one_byte.Statement.{statement}
+use Rattle.reader.proofs.run.one_byte.Tie as tie
+
+shared-slice-read-byte-step : tie.Need-shared-slice-read-byte-step
+shared-slice-read-byte-step c = search needs
+
+byte-step-requires : tie.Need-byte-step-requires
+byte-step-requires c κs = search needs
+
+add-t13 : tie.Need-add-t13
+add-t13 c = search needs
+
+same-length : tie.Need-same-length
+same-length c = search needs
+
+returns : tie.Need-returns
+returns c =
+    let s = c .before .before .before .before .before .before .before .before .before in
+    let a = s .args in
+    let x = c .before .before .before .byte-step in
+    (now-onward (now (a .piece)) (a .at) (tallyOf (a .l) (now (a .frame))) (now (a .area)) _ (x .ensures) (s .pre .0 .1) (s .pre .0 .0) (omega arith) (s .pre .1 .1), omega arith)
+
+pub one-byte-spec : {M : Type 1} → statement M
+one-byte-spec =
+    tie.close (tie.spec shared-slice-read-byte-step byte-step-requires add-t13 same-length returns)
