@@ -5,6 +5,7 @@
 mod bridge;
 mod bytewise;
 mod codecs;
+mod nominal;
 mod plain;
 mod stream;
 mod tally;
@@ -134,6 +135,7 @@ impl Trial {
         self.proved(seen)?;
         self.streaming("bytewise", bytewise::take)?;
         self.streaming("tuned", tuned::take)?;
+        self.streaming("nominal", nominal::take)?;
         codecs::trials(&mut self.r)
     }
 
