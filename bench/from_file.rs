@@ -6,21 +6,21 @@ use std::io::{self, Read};
 use std::process::{Command, Stdio};
 
 use crate::tally::{Tally, AREA};
-use crate::{held, nominal, seconds, ROUNDS};
+use crate::{fail, nominal, seconds, ROUNDS};
 
 const PROGRAM: &str = "target/bin/pcd_tally";
 const FILE: &str = "target/bench/stream.pcd";
 
+pub fn print_heading() {
+    println!("{:<12} | {:>8} {:>8} | {:>7}", "stream", "program", "reading", "ratio");
+}
+
 pub fn print_row(name: &str, bytes: &[u8]) {
     let times = measure(bytes);
-    // Whatever happened, the file goes.
     let removed = fs::remove_file(FILE);
-    let [program, plain] = times.and_then(|times| removed.map(|()| times)).unwrap_or_else(|e| {
-        held(false, &format!("{FILE}: {e}"));
-        unreachable!()
-    });
+    let [program, plain] = times.and_then(|times| removed.map(|()| times)).unwrap_or_else(|e| fail(&format!("{FILE}: {e}")));
     let speed = |time: f64| bytes.len() as f64 / time / 1e6;
-    println!("{name:<12} program {:>6.0}, reading alone {:>6.0}", speed(program), speed(plain));
+    println!("{name:<12} | {:>8.0} {:>8.0} | {:>7.2}", speed(program), speed(plain), plain / program);
 }
 
 // The least times of the program and of reading alone. The program must print what the stream's tally is.
@@ -31,8 +31,9 @@ fn measure(bytes: &[u8]) -> io::Result<[f64; 2]> {
     for _ in 0..ROUNDS {
         let (printed, program_time) = seconds(run_program);
         let (length, plain_time) = seconds(read_alone);
-        held(printed? == wanted.as_bytes(), "the program prints another tally");
-        held(length? == bytes.len(), "the file has another length");
+        if printed? != wanted.as_bytes() || length? != bytes.len() {
+            return Err(io::Error::new(io::ErrorKind::Other, "the program prints another tally, or the file has another length"));
+        }
         for (best, time) in best.iter_mut().zip([program_time, plain_time]) {
             *best = best.min(time);
         }

@@ -97,9 +97,9 @@ fn place(t: &mut Tally, piece: &[u8]) -> Run {
     let places = &mut t.frame[t.placed as usize..FRAME - 1];
     let mut run = Run::default();
     run.pass(piece, 0, 0);
-    let cells = copy_words::<CELL>(&piece[run.bytes..], places, is_cell);
+    let cells = copy_words::<CELL, _>(&piece[run.bytes..], places, is_cell);
     run.pass(piece, CELL, cells);
-    let groups = copy_words::<GROUP>(&piece[run.bytes..], &mut places[run.words..], is_group);
+    let groups = copy_words::<GROUP, _>(&piece[run.bytes..], &mut places[run.words..], is_group);
     run.pass(piece, GROUP, groups);
     // Groups with FILL between them, of any other number.
     for place in &mut places[run.words..] {
@@ -115,7 +115,7 @@ fn place(t: &mut Tally, piece: &[u8]) -> Run {
 
 // The words of the nominal parts that come first, as many as there are places: how many.
 #[inline(always)]
-fn copy_words<const WIDTH: usize>(piece: &[u8], places: &mut [u8], nominal: impl Fn(&[u8]) -> bool) -> usize {
+fn copy_words<const WIDTH: usize, F: Fn(&[u8]) -> bool>(piece: &[u8], places: &mut [u8], nominal: F) -> usize {
     let mut n = 0;
     for (place, part) in places.iter_mut().zip(piece.chunks_exact(WIDTH)) {
         if !nominal(part) {

@@ -53,6 +53,7 @@ fn main() {
     println!();
     println!("the program from a file of {file_mib} MiB, MB/s, best of {ROUNDS}; beside it the same file read in pieces of 65,536 and no more");
     println!();
+    from_file::print_heading();
     for name in STREAMS {
         from_file::print_row(name, &stream_of(name, file_mib * MIB));
     }
@@ -179,9 +180,13 @@ fn print_row(name: &str, bytes: &[u8], piece: usize) {
 
 fn held(ok: bool, what: &str) {
     if !ok {
-        println!("{what}");
-        exit(1);
+        fail(what);
     }
+}
+
+fn fail(what: &str) -> ! {
+    println!("{what}");
+    exit(1)
 }
 
 // The cost a byte must not grow with the length.
