@@ -10,8 +10,10 @@ const GROUP: usize = 4;
 const CELL: usize = 9;
 const BLOCK: usize = 64;
 
-// A group, the first eight bytes of a cell and eight FILL as numbers, first byte lowest; x times COPIES is x at the three copies.
+// A group, two groups, the first eight bytes of a cell and eight FILL as numbers, first byte lowest, with 0 for each copy; x times COPIES is x
+// at the three copies.
 const GROUP_BITS: u32 = SYNC as u32;
+const PAIR_BITS: u64 = u64::from_le_bytes([SYNC, 0, 0, 0, SYNC, 0, 0, 0]);
 const CELL_BITS: u64 = u64::from_le_bytes([SYNC, 0, 0, 0, FILL, FILL, FILL, FILL]);
 const FILL_BITS: u64 = u64::from_le_bytes([FILL; 8]);
 const COPIES: u32 = 0x0101_0100;
@@ -50,15 +52,19 @@ struct Run {
 }
 
 impl Run {
+    fn past_fill(piece: &[u8]) -> Run {
+        Run { bytes: leading_fill(piece), ..Run::default() }
+    }
+
     // Past n nominal parts of this width, and the FILL after them.
     #[inline(always)]
     fn pass(&mut self, piece: &[u8], width: usize, n: usize) {
-        self.bytes += n * width;
-        self.words += n;
         if n != 0 {
+            self.bytes += n * width;
+            self.words += n;
             self.last = piece[self.bytes - width + 1];
+            self.bytes += leading_fill(&piece[self.bytes..]);
         }
-        self.bytes += leading_fill(&piece[self.bytes..]);
     }
 
     fn count(&self, t: &mut Tally) {
@@ -74,12 +80,11 @@ impl Run {
 
 // Nominal groups and FILL, while no word can begin the sync.
 fn hunt(t: &mut Tally, piece: &[u8]) -> Run {
-    let mut run = Run::default();
     if t.matched != 0 {
-        return run;
+        return Run::default();
     }
     let goes_on = |word| word != FRAME_SYNC[0];
-    run.pass(piece, 0, 0);
+    let mut run = Run::past_fill(piece);
     let cells = piece[run.bytes..].chunks_exact(CELL).take_while(|c| is_cell(c) && goes_on(c[1])).count();
     run.pass(piece, CELL, cells);
     while let Some(g) = piece.get(run.bytes..run.bytes + GROUP) {
@@ -95,13 +100,12 @@ fn hunt(t: &mut Tally, piece: &[u8]) -> Run {
 // Nominal groups and FILL, up to the last place: the group that fills it may end the call, so nothing after it is taken with it.
 fn place(t: &mut Tally, piece: &[u8]) -> Run {
     let places = &mut t.frame[t.placed as usize..FRAME - 1];
-    let mut run = Run::default();
-    run.pass(piece, 0, 0);
-    let cells = copy_words::<CELL, _>(&piece[run.bytes..], places, is_cell);
+    let mut run = Run::past_fill(piece);
+    let cells = copy_cells(&piece[run.bytes..], places);
     run.pass(piece, CELL, cells);
-    let groups = copy_words::<GROUP, _>(&piece[run.bytes..], &mut places[run.words..], is_group);
+    let groups = copy_pairs(&piece[run.bytes..], &mut places[run.words..]);
     run.pass(piece, GROUP, groups);
-    // Groups with FILL between them, of any other number.
+    // What is left: groups with FILL between them, of any other number.
     for place in &mut places[run.words..] {
         match piece.get(run.bytes..run.bytes + GROUP) {
             Some(g) if is_group(g) => *place = g[1],
@@ -113,23 +117,44 @@ fn place(t: &mut Tally, piece: &[u8]) -> Run {
     run
 }
 
-// The words of the nominal parts that come first, as many as there are places: how many.
+// The words of the cells that come first, as many as there are places: how many.
 #[inline(always)]
-fn copy_words<const WIDTH: usize, F: Fn(&[u8]) -> bool>(piece: &[u8], places: &mut [u8], nominal: F) -> usize {
-    let mut n = 0;
-    for (place, part) in places.iter_mut().zip(piece.chunks_exact(WIDTH)) {
-        if !nominal(part) {
+fn copy_cells(piece: &[u8], places: &mut [u8]) -> usize {
+    let mut words = 0;
+    for (place, cell) in places.iter_mut().zip(piece.chunks_exact(CELL)) {
+        if !is_cell(cell) {
             break;
         }
-        *place = part[1];
-        n += 1;
+        *place = cell[1];
+        words += 1;
     }
-    n
+    words
+}
+
+// The same of groups that follow each other, two at a time.
+#[inline(always)]
+fn copy_pairs(piece: &[u8], places: &mut [u8]) -> usize {
+    let mut words = 0;
+    for (place, pair) in places.chunks_exact_mut(2).zip(piece.chunks_exact(2 * GROUP)) {
+        if !is_pair(pair) {
+            break;
+        }
+        place[0] = pair[1];
+        place[1] = pair[1 + GROUP];
+        words += 2;
+    }
+    words
 }
 
 #[inline(always)]
 fn is_group(g: &[u8]) -> bool {
     u32::from_le_bytes(g.try_into().unwrap()) == GROUP_BITS + COPIES * u32::from(g[1])
+}
+
+#[inline(always)]
+fn is_pair(p: &[u8]) -> bool {
+    let copies = u64::from(COPIES) * u64::from(p[1]) + (u64::from(COPIES) << 32) * u64::from(p[1 + GROUP]);
+    eight(p) == PAIR_BITS + copies
 }
 
 #[inline(always)]
@@ -142,10 +167,14 @@ fn eight(b: &[u8]) -> u64 {
     u64::from_le_bytes(b[..8].try_into().unwrap())
 }
 
+// None and one by branches, which the processor foresees; more by eights, with what it has to wait for, a count of bits, at the end.
 #[inline(always)]
 fn leading_fill(piece: &[u8]) -> usize {
     if piece.first() != Some(&FILL) {
         return 0;
+    }
+    if piece.get(1) != Some(&FILL) {
+        return 1;
     }
     let mut at = 0;
     for part in piece.chunks_exact(8) {

@@ -12,7 +12,6 @@ use Rattle.subcom.specs.declared.items.ItemCount.{ItemCount}
 use Rattle.subcom.specs.declared.items.ItemCount.the-variants as item-count
 use Rattle.subcom.specs.declared.items.Description.{Description}
 use Rattle.subcom.specs.declared.items.Description.the-variants as description
-use Rattle.subcom.specs.declared.reading.EightFlags.{EightFlags}
 use Rattle.subcom.specs.declared.reading.Reading.{Reading}
 use Rattle.subcom.specs.declared.reading.Reading.the-variants.{Count, Flags, Number, Time, Fill, Refused}
 use Rattle.subcom.specs.Columns.{kindRefusal, columnKind}
