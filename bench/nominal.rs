@@ -1,5 +1,5 @@
-// A streaming reader in safe Rust with the ideas of the proved one's fast level copied into it. A nominal group is SYNC and three equal
-// copies, a nominal cell such a group and five FILL: each is compared as one number, and the counts of a run of them are added once, from
+// A streaming reader in safe Rust with the ideas for a fast proved one copied into it. A nominal group is SYNC and three equal copies, a
+// nominal cell such a group and five FILL: a cell or two groups are compared as one number, and the counts of a run are added once, from
 // how far it went. Outside groups, blocks of 64 bytes without SYNC are passed over. All else goes a group at a time, or a byte at a time
 // where a group lies across the end of a piece.
 
