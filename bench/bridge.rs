@@ -21,6 +21,12 @@ extern "C" {
     fn pcd_encode_time(spacecraft: u64, instant: u64, out: *mut u8, out_len: usize) -> u8;
     fn pcd_decode_number(bytes: *const u8, bytes_len: usize, out: *mut f64) -> u8;
     fn pcd_encode_number(x: f64, out: *mut u8, out_len: usize) -> u8;
+    fn pcd_gather(area: *const u8, area_len: usize, column: *mut u8, column_len: usize) -> u8;
+    fn pcd_kind(column: *const u8, column_len: usize, out: *mut u64) -> u8;
+    fn pcd_item_count(kind: u64, out: *mut u64) -> u8;
+    fn pcd_describe(kind: u64, item: u64, out: *mut [u64; 3]) -> u8;
+    fn pcd_part_refusal(column: *const u8, column_len: usize, kind: u64, item: u64) -> u8;
+    fn pcd_read(column: *const u8, column_len: usize, kind: u64, item: u64, out: *mut [u64; 9], number: *mut f64) -> u8;
 }
 
 // A tally as it crosses.
@@ -107,4 +113,28 @@ pub fn decode_number(bytes: &[u8], out: &mut f64) -> u8 {
 
 pub fn encode_number(x: f64, out: &mut [u8]) -> u8 {
     unsafe { pcd_encode_number(x, out.as_mut_ptr(), out.len()) }
+}
+
+pub fn gather(area: &[u8], column: &mut [u8]) -> u8 {
+    unsafe { pcd_gather(area.as_ptr(), area.len(), column.as_mut_ptr(), column.len()) }
+}
+
+pub fn kind(column: &[u8], out: &mut u64) -> u8 {
+    unsafe { pcd_kind(column.as_ptr(), column.len(), out) }
+}
+
+pub fn item_count(kind: u64, out: &mut u64) -> u8 {
+    unsafe { pcd_item_count(kind, out) }
+}
+
+pub fn describe(kind: u64, item: u64, out: &mut [u64; 3]) -> u8 {
+    unsafe { pcd_describe(kind, item, out) }
+}
+
+pub fn part_refusal(column: &[u8], kind: u64, item: u64) -> u8 {
+    unsafe { pcd_part_refusal(column.as_ptr(), column.len(), kind, item) }
+}
+
+pub fn read(column: &[u8], kind: u64, item: u64, out: &mut [u64; 9], number: &mut f64) -> u8 {
+    unsafe { pcd_read(column.as_ptr(), column.len(), kind, item, out, number) }
 }

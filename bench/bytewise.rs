@@ -40,7 +40,7 @@ pub fn byte(t: &mut Tally, b: u8, area: &mut [u8]) -> bool {
     }
 }
 
-fn group(t: &mut Tally, third: u8, area: &mut [u8]) -> bool {
+pub fn group(t: &mut Tally, third: u8, area: &mut [u8]) -> bool {
     let voted = if t.first == t.second || t.first == third {
         Some(t.first)
     } else if t.second == third {

@@ -1,11 +1,11 @@
-// The writer and the codecs of word 72 once more, from paper 01, and the proved ones held to them. An answer is the bytes or the value, or
+// The writer and the codecs of word 72's times and numbers once more, from paper 01, and the proved ones held to them. An answer is the bytes or the value, or
 // the number of the refusal.
 
 use crate::bridge;
 use crate::stream::{self, Random};
 use crate::tally::{FRAME, FRAME_SYNC, NUMBER_PLACE};
 
-const TICKS_A_DAY: u64 = 24 * 60 * 60 * 1000 * 16;
+pub const TICKS_A_DAY: u64 = 24 * 60 * 60 * 1000 * 16;
 
 fn lead_in(spacing: u64, out: usize) -> Result<Vec<u8>, u8> {
     let mut bytes = Vec::new();
@@ -34,7 +34,7 @@ fn minor_frame(spacing: u64, frame: &[u8], out: usize) -> Result<Vec<u8>, u8> {
 }
 
 // Spacecraft and instant.
-fn read_time(bytes: &[u8]) -> Result<[u64; 2], u8> {
+pub fn read_time(bytes: &[u8]) -> Result<[u64; 2], u8> {
     if bytes.len() != 7 {
         return Err(2);
     }
@@ -52,7 +52,7 @@ fn read_time(bytes: &[u8]) -> Result<[u64; 2], u8> {
     Ok([halves[0], (seconds * 1000 + millisecond) * 16 + halves[13]])
 }
 
-fn write_time(spacecraft: u64, instant: u64, out: usize) -> Result<Vec<u8>, u8> {
+pub fn write_time(spacecraft: u64, instant: u64, out: usize) -> Result<Vec<u8>, u8> {
     if out != 7 {
         return Err(2);
     }
@@ -75,7 +75,7 @@ fn write_time(spacecraft: u64, instant: u64, out: usize) -> Result<Vec<u8>, u8> 
     Ok(halves.chunks(2).map(|pair| 16 * pair[0] + pair[1]).collect())
 }
 
-fn read_number(bytes: &[u8]) -> Result<f64, u8> {
+pub fn read_number(bytes: &[u8]) -> Result<f64, u8> {
     if bytes.len() != 6 {
         return Err(2);
     }

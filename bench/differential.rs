@@ -1,10 +1,12 @@
 // The proved reader against the plain one: differential STREAMS SEED. Stream i has the seed SEED + i, so that a stream which fails is run
-// alone by `1` and its own seed. The readers that the timing compares with are held to the same, and each seed tries the writer and the
-// codecs too.
+// alone by `1` and its own seed. The readers that the timing compares with are held to the same, and each seed tries the writer, the codecs
+// and every item of every kind of word 72 too.
 
 mod bridge;
 mod bytewise;
 mod codecs;
+mod items;
+mod nominal;
 mod plain;
 mod stream;
 mod tally;
@@ -61,6 +63,7 @@ struct Seen {
     at_limit: u64,
     refused: [u64; 4],
     ended_in: [u64; 14],
+    word72: items::Met,
 }
 
 impl Seen {
@@ -96,6 +99,7 @@ impl Seen {
         println!("refused calls: 1: {}, 2: {}, 3: {}", self.refused[1], self.refused[2], self.refused[3]);
         let ended: Vec<String> = NAMES.iter().zip(self.ended_in).map(|(name, n)| format!("{name} {n}")).collect();
         println!("streams that ended with some: {}", ended.join(", "));
+        self.word72.print();
     }
 }
 
@@ -134,7 +138,9 @@ impl Trial {
         self.proved(seen)?;
         self.streaming("bytewise", bytewise::take)?;
         self.streaming("tuned", tuned::take)?;
-        codecs::trials(&mut self.r)
+        self.streaming("nominal", nominal::take)?;
+        codecs::trials(&mut self.r)?;
+        items::trials(&mut self.r, &mut seen.word72)
     }
 
     // The proved reader, in calls cut at random, with refused calls among them.

@@ -1,10 +1,12 @@
-// The proved reader against safe Rust and memcpy, in one run: speed [MIB]. Each figure is the best of five rounds, in which the readers
-// take turns, and all readers must leave the same tally and area. Nothing fails on a time.
+// The proved reader against safe Rust and memcpy, and the program end to end from a file, in one run: speed [MIB [FILE_MIB]]. Each figure is
+// the best of five rounds, in which the readers take turns, and all of them must leave the same tally and area. Nothing fails on a time.
 
-// Of these two the differential test uses more.
+// Of these the differential test uses more.
 #[allow(dead_code)]
 mod bridge;
 mod bytewise;
+mod from_file;
+mod nominal;
 #[allow(dead_code)]
 mod stream;
 mod tally;
@@ -21,39 +23,64 @@ use tally::{Tally, AREA};
 
 const ROUNDS: usize = 5;
 const MIB: usize = 1 << 20;
+const STREAMS: [&str; 4] = ["five FILL", "no FILL", "five, bad", "random"];
+
+type Take = fn(&mut Tally, &[u8], &mut [u8]) -> (usize, bool);
+
+// The readers in Rust: what one writes first, the one tuned by hand, and that with our own ideas copied into it.
+const READERS: [(&str, Take); 3] = [("bytewise", bytewise::take), ("tuned", tuned::take), ("nominal", nominal::take)];
 
 fn main() {
-    let mib: usize = env::args().nth(1).map_or(Some(32), |a| a.parse().ok()).unwrap_or_else(|| {
-        eprintln!("usage: speed [MIB]");
-        exit(2);
-    });
+    let sizes: Vec<Option<usize>> = env::args().skip(1).map(|a| a.parse().ok()).collect();
+    let (mib, file_mib) = match sizes[..] {
+        [] => (32, 256),
+        [Some(mib)] => (mib, 256),
+        [Some(mib), Some(file_mib)] => (mib, file_mib),
+        _ => {
+            eprintln!("usage: speed [MIB [FILE_MIB]]");
+            exit(2);
+        }
+    };
     println!("MB/s (10^6 bytes), {mib} MiB, best of {ROUNDS}; then the proved reader's speed as a ratio to each");
     println!();
-    println!(
-        "{:<12} {:>7} | {:>8} {:>8} {:>8} {:>8} | {:>8} {:>8} {:>8}",
-        "stream", "piece", "proved", "bytewise", "tuned", "memcpy", "bytewise", "tuned", "memcpy"
-    );
-    for (name, bytes) in streams(mib * MIB) {
+    print_heading();
+    for name in STREAMS {
+        let bytes = stream_of(name, mib * MIB);
         for piece in [bytes.len(), 65_536, 4096, 300] {
             print_row(name, &bytes, piece);
         }
     }
     println!();
+    println!("the program from a file of {file_mib} MiB, MB/s, best of {ROUNDS}; beside it the same file read in pieces of 65,536 and no more");
+    println!();
+    from_file::print_heading();
+    for name in STREAMS {
+        from_file::print_row(name, &stream_of(name, file_mib * MIB));
+    }
+    println!();
     linearity();
 }
 
-fn streams(n: usize) -> [(&'static str, Vec<u8>); 4] {
-    let five = reel(n, 5);
-    let mut bad = five.clone();
+fn stream_of(name: &str, n: usize) -> Vec<u8> {
     let mut r = Random(3);
-    for b in bad.iter_mut() {
-        if r.one_in(5000) {
-            *b = r.byte();
+    match name {
+        "five FILL" => reel(n, 5),
+        "no FILL" => reel(n, 0),
+        "five, bad" => {
+            let mut bytes = reel(n, 5);
+            for b in bytes.iter_mut() {
+                if r.one_in(5000) {
+                    *b = r.byte();
+                }
+            }
+            bytes
+        }
+        _ => {
+            let mut bytes = vec![0; n];
+            r.fill(&mut bytes);
+            bytes
         }
     }
-    let mut random = vec![0; n];
-    r.fill(&mut random);
-    [("five FILL", five), ("no FILL", reel(n, 0)), ("five, bad", bad), ("random", random)]
 }
 
 // A lead-in and major frames, cut off at n bytes.
@@ -104,7 +131,7 @@ fn proved(bytes: &[u8], piece: usize) -> Left {
     Left { state, area, paid }
 }
 
-fn in_rust(bytes: &[u8], piece: usize, take: fn(&mut Tally, &[u8], &mut [u8]) -> (usize, bool)) -> Left {
+fn in_rust(bytes: &[u8], piece: usize, take: Take) -> Left {
     let mut t = Tally::fresh();
     let mut area = vec![0; AREA];
     let paid = in_pieces(bytes, piece, |part| take(&mut t, part, &mut area));
@@ -123,36 +150,43 @@ fn seconds<T>(work: impl FnOnce() -> T) -> (T, f64) {
     (answer, started.elapsed().as_secs_f64())
 }
 
+fn print_heading() {
+    let others: String = READERS.iter().map(|(name, _)| *name).chain(["memcpy"]).map(|name| format!(" {name:>8}")).collect();
+    println!("{:<12} {:>7} | {:>8}{others} |{others}", "stream", "piece", "proved");
+}
+
 fn print_row(name: &str, bytes: &[u8], piece: usize) {
     let mut to = vec![1; bytes.len()];
-    let mut best = [f64::INFINITY; 4];
+    let mut proved_time = f64::INFINITY;
+    let mut times = [f64::INFINITY; READERS.len() + 1];
     for _ in 0..ROUNDS {
-        let (a, proved_time) = seconds(|| proved(bytes, piece));
-        let (b, bytewise_time) = seconds(|| in_rust(bytes, piece, bytewise::take));
-        let (c, tuned_time) = seconds(|| in_rust(bytes, piece, tuned::take));
-        let (_, copy_time) = seconds(|| copy(bytes, piece, &mut to));
-        if a != b || a != c || to != bytes {
-            println!("the readers differ on the stream '{name}' in pieces of {piece}");
-            exit(1);
-        }
-        for (best, time) in best.iter_mut().zip([proved_time, bytewise_time, tuned_time, copy_time]) {
+        let (left, time) = seconds(|| proved(bytes, piece));
+        proved_time = proved_time.min(time);
+        for ((reader, take), best) in READERS.iter().zip(&mut times) {
+            let (other, time) = seconds(|| in_rust(bytes, piece, *take));
             *best = best.min(time);
+            held(left == other, &format!("the proved reader and the {reader} one differ on the stream '{name}' in pieces of {piece}"));
         }
+        let ((), time) = seconds(|| copy(bytes, piece, &mut to));
+        times[READERS.len()] = times[READERS.len()].min(time);
+        held(to == bytes, "the copy differs");
     }
-    let speed = best.map(|time| bytes.len() as f64 / time / 1e6);
+    let speed = |time: f64| bytes.len() as f64 / time / 1e6;
+    let speeds: String = times.iter().map(|&time| format!(" {:>8.0}", speed(time))).collect();
+    let ratios: String = times.iter().map(|&time| format!(" {:>8.2}", time / proved_time)).collect();
     let piece = if piece == bytes.len() { "whole".to_string() } else { piece.to_string() };
-    println!(
-        "{:<12} {:>7} | {:>8.0} {:>8.0} {:>8.0} {:>8.0} | {:>8.2} {:>8.2} {:>8.2}",
-        name,
-        piece,
-        speed[0],
-        speed[1],
-        speed[2],
-        speed[3],
-        speed[0] / speed[1],
-        speed[0] / speed[2],
-        speed[0] / speed[3]
-    );
+    println!("{name:<12} {piece:>7} | {:>8.0}{speeds} |{ratios}", speed(proved_time));
+}
+
+fn held(ok: bool, what: &str) {
+    if !ok {
+        fail(what);
+    }
+}
+
+fn fail(what: &str) -> ! {
+    println!("{what}");
+    exit(1)
 }
 
 // The cost a byte must not grow with the length.

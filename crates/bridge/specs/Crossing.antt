@@ -1,17 +1,17 @@
 -- A tally as it crosses to another language: twenty numbers and the frame. Definitions only.
 use mathlib.Core.Path.{_≡_}
 use mathlib.Core.Bool.{Bool, cond, not}
-use mathlib.Core.List.{List}
+use mathlib.Core.List.{List, [], _∷_, _++_}
 use Prim.Native.Nat.{ℕ, _%_}
 use lib.Dec.{eqb}
-use lib.ListN.{getD, set}
+use lib.ListN.{getD}
 use Rattle.labelling.specs.declared.Framing.{Framing}
 use Rattle.labelling.specs.declared.Groups.{Groups}
 use Rattle.labelling.specs.declared.Runs.{Runs}
 use Rattle.labelling.specs.declared.Tally.{Tally}
 use Rattle.labelling.specs.Words.{byteVote}
 use Rattle.labelling.specs.Machine.{fresh}
-use Rattle.labelling.specs.Calls.{Call, Answer, answer, takeRefusal}
+use Rattle.labelling.specs.Calls.{Call, answer, takeRefusal}
 
 -- ---- numbers to a tally: a copy is the low byte of its number, and a flag is set by any number but 0
 
@@ -37,36 +37,31 @@ tallyOf n frame = record { groups = groupsOf n; framing = framingOf n; runs = ru
 abbrev pub flag : Bool → ℕ
 flag b = cond b 1 0
 
-abbrev pub withGroups : Groups → List ℕ → List ℕ
-withGroups g n =
-    set (set (set (set (set (set (set (set n 0 (g .bytes)) 1 (g .fill)) 2 (g .stray)) 3 (g .voted)) 4 (g .split)) 5 (g .«open»)) 6 (g .first)) 7 (g .second)
+abbrev pub groupNumbers : Groups → List ℕ
+groupNumbers g = g .bytes ∷ g .fill ∷ g .stray ∷ g .voted ∷ g .split ∷ g .«open» ∷ g .first ∷ g .second ∷ []
 
-abbrev pub withFraming : Framing → List ℕ → List ℕ
-withFraming f n =
-    set (set (set (set (set (set (set (set n 8 (f .hunted)) 9 (f .good)) 10 (f .damaged)) 11 (f .unsynced)) 12 (f .placed)) 13 (flag (f .hunting))) 14 (f .matched)) 15 (flag (f .erasure))
+abbrev pub framingNumbers : Framing → List ℕ
+framingNumbers f =
+    f .hunted ∷ f .good ∷ f .damaged ∷ f .unsynced ∷ f .placed ∷ flag (f .hunting) ∷ f .matched ∷ flag (f .erasure) ∷ []
 
-abbrev pub withRuns : Runs → List ℕ → List ℕ
-withRuns r n = set (set (set (set n 16 (r .majors)) 17 (r .broken)) 18 (r .loose)) 19 (r .building)
+abbrev pub runNumbers : Runs → List ℕ
+runNumbers r = r .majors ∷ r .broken ∷ r .loose ∷ r .building ∷ []
 
-abbrev pub withTally : Tally → List ℕ → List ℕ
-withTally t n = withRuns (t .runs) (withFraming (t .framing) (withGroups (t .groups) n))
-
--- ---- the answer of a call: the bytes taken, and whether a major frame is complete
-
-abbrev pub withAnswer : Answer → List ℕ → List ℕ
-withAnswer a out = set (set out 0 (a .taken)) 1 (flag (a .complete))
+abbrev pub numbersOf : Tally → List ℕ
+numbersOf t = groupNumbers (t .groups) ++ framingNumbers (t .framing) ++ runNumbers (t .runs)
 
 -- ---- what the entries promise
 
--- `pcd_take` of the call c returns r and leaves the lent numbers, frame, area and answer
-pub record TakeCrossed (c : Call) (r : ℕ) (numbers numbers′ frame′ area′ out out′ : List ℕ) : Type 0 where
+-- `pcd_take` of the call c returns r and leaves the lent numbers, frame, area and answer: the bytes taken, and whether a major frame is
+-- complete
+pub record TakeCrossed (c : Call) (r : ℕ) (numbers frame area out : List ℕ) : Type 0 where
   pub refusal-is : r ≡ takeRefusal c
-  pub numbers-is : numbers′ ≡ withTally (answer byteVote c .tally) numbers
-  pub frame-is : frame′ ≡ answer byteVote c .tally .frame
-  pub area-is : area′ ≡ answer byteVote c .area
-  pub answer-is : out′ ≡ withAnswer (answer byteVote c) out
+  pub numbers-is : numbers ≡ numbersOf (answer byteVote c .tally)
+  pub frame-is : frame ≡ answer byteVote c .tally .frame
+  pub area-is : area ≡ answer byteVote c .area
+  pub answer-is : out ≡ answer byteVote c .taken ∷ flag (answer byteVote c .complete) ∷ []
 
 -- `pcd_fresh` leaves the lent numbers and frame
-pub record FreshCrossed (numbers numbers′ frame′ : List ℕ) : Type 0 where
-  pub numbers-is : numbers′ ≡ withTally fresh numbers
-  pub frame-is : frame′ ≡ fresh .frame
+pub record FreshCrossed (numbers frame : List ℕ) : Type 0 where
+  pub numbers-is : numbers ≡ numbersOf fresh
+  pub frame-is : frame ≡ fresh .frame

@@ -1,8 +1,7 @@
 -- What the codecs' entries leave in the lent places. Definitions only.
-use mathlib.Core.List.{List}
+use mathlib.Core.List.{List, [], _∷_}
 use Prim.Native.Nat.{ℕ}
 use lib.Ieee.{Float}
-use lib.ListN.{set}
 use Rattle.time_code.specs.declared.Decoded.{Decoded as TimeDecoded}
 use Rattle.time_code.specs.declared.Decoded.the-variants.{Time, Refused}
 use Rattle.time_code.specs.declared.TimeCode.{TimeCode}
@@ -14,7 +13,7 @@ timeCode s i = record { spacecraft = s; instant = i }
 
 -- the spacecraft and the instant, or what was there
 abbrev pub timeOr : TimeDecoded → List ℕ → List ℕ
-timeOr (Time t) out = set (set out 0 (t .spacecraft)) 1 (t .instant)
+timeOr (Time t) out = t .spacecraft ∷ t .instant ∷ []
 timeOr (Refused n) out = out
 
 -- the double, or what was there

@@ -1,2 +1,3 @@
 pub mod Crossing
 pub mod LentPlaces
+pub mod Word72

@@ -15,8 +15,7 @@ pub extern "C" fn pcd_decode_time(bytes: &[u8], out: &mut [u64; 2]) -> u8
     let d = time_code::decode(bytes);
     match d {
         time_code::Decoded::Time(t) => {
-            out[0] = t.spacecraft;
-            out[1] = t.instant;
+            *out = [t.spacecraft, t.instant];
             return 0;
         }
         time_code::Decoded::Refused(number) => {

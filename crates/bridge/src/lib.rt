@@ -1,13 +1,14 @@
-// The library for programs in other languages: the reader here, the writer and the codecs of word 72 in their modules. A tally crosses as
+// The library for programs in other languages: the reader here, the writer, word 72 and its codecs in their modules. A tally crosses as
 // its twenty numbers and its frame of 128 bytes, which the caller lends; an entry reads them, calls the proved function, and writes them
 // back.
 mod codecs;
+mod word72;
 mod writing;
 
 ghost use mathlib.Core.Path.{_≡_};
 ghost use Prim.Native.Nat.{_%_};
 ghost use Rattle.reader.specs.Shapes.{callOf};
-ghost use Rattle.bridge.specs.Crossing.{isSet, flag as flagOf, groupsOf, framingOf, runsOf, tallyOf, withGroups, withFraming, withRuns, withTally, TakeCrossed, FreshCrossed};
+ghost use Rattle.bridge.specs.Crossing.{isSet, flag as flagOf, groupsOf, framingOf, runsOf, tallyOf, numbersOf, TakeCrossed, FreshCrossed};
 pub use codecs::pcd_decode_number;
 pub use codecs::pcd_decode_time;
 pub use codecs::pcd_encode_number;
@@ -16,13 +17,19 @@ use labelling::Framing;
 use labelling::Groups;
 use labelling::Runs;
 use labelling::Tally;
+pub use word72::pcd_describe;
+pub use word72::pcd_gather;
+pub use word72::pcd_item_count;
+pub use word72::pcd_kind;
+pub use word72::pcd_part_refusal;
+pub use word72::pcd_read;
 pub use writing::pcd_write_lead_in;
 pub use writing::pcd_write_minor_frame;
 
 // Writes a fresh tally.
 #[no_mangle]
 pub extern "C" fn pcd_fresh(numbers: &mut [u64; 20], frame: &mut [u8; 128])
-    ensures { λ _. ⌜ FreshCrossed (now (numbers .entry)) (now (numbers .exit)) (now (frame .exit)) ⌝ }
+    ensures { λ _. ⌜ FreshCrossed (now (numbers .exit)) (now (frame .exit)) ⌝ }
 {
     let t = reader::fresh();
     put_tally(t, numbers, frame);
@@ -41,14 +48,14 @@ pub extern "C" fn pcd_take(
     ensures { λ r. ⌜ TakeCrossed
         (callOf (tallyOf (now (numbers .entry)) (now (frame .entry))) (now (piece .entry)) (now (area .entry)))
         r
-        (now (numbers .entry)) (now (numbers .exit)) (now (frame .exit)) (now (area .exit)) (now (answer .entry)) (now (answer .exit)) ⌝ }
+        (now (numbers .exit)) (now (frame .exit)) (now (area .exit)) (now (answer .exit)) ⌝ }
 {
     let t = tally_of(&*numbers, &*frame);
     let r = reader::take(t, piece, area);
     let left = r.tally;
     put_tally(left, numbers, frame);
-    answer[0] = r.taken as u64;
-    answer[1] = flag(r.complete);
+    let complete = flag(r.complete);
+    *answer = [r.taken as u64, complete];
     r.refusal
 }
 
@@ -68,15 +75,38 @@ fn tally_of(n: &[u64; 20], frame: &[u8; 128]) -> Tally
 }
 
 fn put_tally(t: Tally, n: &mut [u64; 20], frame: &mut [u8; 128])
-    ensures { λ _. ⌜ now (n .exit) ≡ withTally t (now (n .entry)) ⌝ }
+    ensures { λ _. ⌜ now (n .exit) ≡ numbersOf t ⌝ }
     ensures { λ _. ⌜ now (frame .exit) ≡ t .frame ⌝ }
 {
-    let groups = t.groups;
-    put_groups(groups, n);
-    let framing = t.framing;
-    put_framing(framing, n);
-    let runs = t.runs;
-    put_runs(runs, n);
+    let g = t.groups;
+    let first = wide(g.first);
+    let second = wide(g.second);
+    let f = t.framing;
+    let hunting = flag(f.hunting);
+    let erasure = flag(f.erasure);
+    let r = t.runs;
+    *n = [
+        g.bytes,
+        g.fill,
+        g.stray,
+        g.voted,
+        g.split,
+        g.open,
+        first,
+        second,
+        f.hunted,
+        f.good,
+        f.damaged,
+        f.unsynced,
+        f.placed,
+        hunting,
+        f.matched,
+        erasure,
+        r.majors,
+        r.broken,
+        r.loose,
+        r.building,
+    ];
     let bytes = t.frame;
     *frame = bytes;
 }
@@ -96,19 +126,6 @@ fn groups_of(n: &[u64; 20]) -> Groups
     }
 }
 
-fn put_groups(g: Groups, n: &mut [u64; 20])
-    ensures { λ _. ⌜ now (n .exit) ≡ withGroups g (now (n .entry)) ⌝ }
-{
-    n[0] = g.bytes;
-    n[1] = g.fill;
-    n[2] = g.stray;
-    n[3] = g.voted;
-    n[4] = g.split;
-    n[5] = g.open;
-    n[6] = wide(g.first);
-    n[7] = wide(g.second);
-}
-
 fn framing_of(n: &[u64; 20]) -> Framing
     ensures { λ r. ⌜ r ≡ framingOf (now (n .entry)) ⌝ }
 {
@@ -124,19 +141,6 @@ fn framing_of(n: &[u64; 20]) -> Framing
     }
 }
 
-fn put_framing(f: Framing, n: &mut [u64; 20])
-    ensures { λ _. ⌜ now (n .exit) ≡ withFraming f (now (n .entry)) ⌝ }
-{
-    n[8] = f.hunted;
-    n[9] = f.good;
-    n[10] = f.damaged;
-    n[11] = f.unsynced;
-    n[12] = f.placed;
-    n[13] = flag(f.hunting);
-    n[14] = f.matched;
-    n[15] = flag(f.erasure);
-}
-
 fn runs_of(n: &[u64; 20]) -> Runs
     ensures { λ r. ⌜ r ≡ runsOf (now (n .entry)) ⌝ }
 {
@@ -146,15 +150,6 @@ fn runs_of(n: &[u64; 20]) -> Runs
         loose: n[18],
         building: n[19],
     }
-}
-
-fn put_runs(r: Runs, n: &mut [u64; 20])
-    ensures { λ _. ⌜ now (n .exit) ≡ withRuns r (now (n .entry)) ⌝ }
-{
-    n[16] = r.majors;
-    n[17] = r.broken;
-    n[18] = r.loose;
-    n[19] = r.building;
 }
 
 // A copy is a byte: what a caller wrote above it is not looked at.
@@ -176,7 +171,7 @@ fn is_set(x: u64) -> bool
     x != 0
 }
 
-fn flag(b: bool) -> u64
+pub(crate) fn flag(b: bool) -> u64
     ensures { λ r. ⌜ r ≡ flagOf b ⌝ }
 {
     if b {

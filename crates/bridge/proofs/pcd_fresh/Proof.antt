@@ -11,7 +11,7 @@ put-tally-requires : tie.Need-put-tally-requires
 put-tally-requires c κs = search needs
 
 returns : tie.Need-returns
-returns c = rw (c .put-tally .ensures .0, c .put-tally .ensures .1) (fresh-crossed _ _ (c .before .before .before .fresh .ensures .is-fresh))
+returns c = rw (c .put-tally .ensures .0, c .put-tally .ensures .1) (fresh-crossed _ (c .before .before .before .fresh .ensures .is-fresh))
 
 pub pcd-fresh-spec : {M : Type 1} → statement M
 pcd-fresh-spec = tie.close (tie.spec fresh-requires put-tally-requires returns)

@@ -13,30 +13,16 @@ take-requires c κs = search needs
 put-tally-requires : tie.Need-put-tally-requires
 put-tally-requires c κs = search needs
 
-element-write-answer : tie.Need-element-write-answer
-element-write-answer c = search needs
-
 flag-requires : tie.Need-flag-requires
 flag-requires c κs = search needs
-
-element-write-answer-2 : tie.Need-element-write-answer-2
-element-write-answer-2 c = search needs
 
 same-length : tie.Need-same-length
 same-length c = search needs
 
 returns : tie.Need-returns
-returns c = rw (c .flag .ensures, c .before .put-tally .ensures .0, c .before .put-tally .ensures .1) (take-crossed _ _ _ _ _ (rw (c .before .before .before .before .before .before .before .before .before .tally-of .ensures) at (c .before .before .before .before .before .before .before .take .ensures)))
+returns c = rw (c .before .flag .ensures, c .before .before .put-tally .ensures .0, c .before .before .put-tally .ensures .1) (take-crossed _ _ _ (rw (c .before .before .before .before .before .before .before .before .before .before .tally-of .ensures) at (c .before .before .before .before .before .before .before .before .take .ensures)))
 
 pub pcd-take-spec : {M : Type 1} → statement M
 pcd-take-spec =
     tie.close
-    (tie.spec
-    tally-of-requires
-    take-requires
-    put-tally-requires
-    element-write-answer
-    flag-requires
-    element-write-answer-2
-    same-length
-    returns)
+    (tie.spec tally-of-requires take-requires put-tally-requires flag-requires same-length returns)

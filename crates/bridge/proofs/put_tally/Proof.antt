@@ -1,20 +1,23 @@
--- `bridge::put_tally` meets its contract: its parts are the layers'. Assumes nothing.
+-- `bridge::put_tally` meets its contract: two numbers are copies and two are flags. Assumes nothing.
 use borrow.Author.Needs.{needs}
 use Rattle.bridge.proofs.put_tally.Statement.{statement}
 use Rattle.bridge.proofs.put_tally.Tie as tie
 
-put-groups-requires : tie.Need-put-groups-requires
-put-groups-requires c κs = search needs
+wide-requires : tie.Need-wide-requires
+wide-requires c κs = search needs
 
-put-framing-requires : tie.Need-put-framing-requires
-put-framing-requires c κs = search needs
+wide-requires-2 : tie.Need-wide-requires-2
+wide-requires-2 c κs = search needs
 
-put-runs-requires : tie.Need-put-runs-requires
-put-runs-requires c κs = search needs
+flag-requires : tie.Need-flag-requires
+flag-requires c κs = search needs
+
+flag-requires-2 : tie.Need-flag-requires-2
+flag-requires-2 c κs = search needs
 
 returns : tie.Need-returns
-returns c = (rw (c .before .put-runs .ensures, c .before .before .before .before .put-framing .ensures, c .before .before .before .before .before .before .before .put-groups .ensures), search needs)
+returns c = (rw (c .before .before .before .flag2 .ensures, c .before .before .before .before .flag .ensures, c .before .before .before .before .before .before .wide2 .ensures, c .before .before .before .before .before .before .before .wide .ensures), search needs)
 
 pub put-tally-spec : {M : Type 1} → statement M
 put-tally-spec =
-    tie.close (tie.spec put-groups-requires put-framing-requires put-runs-requires returns)
+    tie.close (tie.spec wide-requires wide-requires-2 flag-requires flag-requires-2 returns)

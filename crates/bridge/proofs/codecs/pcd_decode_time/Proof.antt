@@ -10,14 +10,8 @@ decode-requires c κs = search needs
 enum-known-d : tie.Need-enum-known-d
 enum-known-d c = search needs
 
-element-write-out : tie.Need-element-write-out
-element-write-out c = search needs
-
-element-write-out-2 : tie.Need-element-write-out-2
-element-write-out-2 c = search needs
-
 returns : tie.Need-returns
-returns c = time-read _ _ _ _ (c .before .before .before .decode .ensures) (c .before .d .given .1)
+returns c = time-read _ _ _ _ (c .before .before .before .before .decode .ensures) (c .before .before .d .given .1)
 
 enum-known-d-2 : tie.Need-enum-known-d-2
 enum-known-d-2 c = search needs
@@ -27,12 +21,4 @@ returns-2 c = time-refused _ _ _ _ (c .before .before .before .decode .ensures) 
 
 pub pcd-decode-time-spec : {M : Type 1} → statement M
 pcd-decode-time-spec =
-    tie.close
-    (tie.spec
-    decode-requires
-    enum-known-d
-    element-write-out
-    element-write-out-2
-    returns
-    enum-known-d-2
-    returns-2)
+    tie.close (tie.spec decode-requires enum-known-d returns enum-known-d-2 returns-2)

@@ -1,0 +1,226 @@
+// A streaming reader in safe Rust with the ideas for a fast proved one copied into it. A nominal group is SYNC and three equal copies, a
+// nominal cell such a group and five FILL: a cell or two groups are compared as one number, and the counts of a run are added once, from
+// how far it went. Outside groups, blocks of 64 bytes without SYNC are passed over. All else goes a group at a time, or a byte at a time
+// where a group lies across the end of a piece.
+
+use crate::bytewise::{byte, group};
+use crate::tally::{Tally, FILL, FRAME, FRAME_SYNC, SYNC};
+
+const GROUP: usize = 4;
+const CELL: usize = 9;
+const BLOCK: usize = 64;
+
+// A group, two groups, the first eight bytes of a cell and eight FILL as numbers, first byte lowest, with 0 for each copy; x times COPIES is x
+// at the three copies.
+const GROUP_BITS: u32 = SYNC as u32;
+const PAIR_BITS: u64 = u64::from_le_bytes([SYNC, 0, 0, 0, SYNC, 0, 0, 0]);
+const CELL_BITS: u64 = u64::from_le_bytes([SYNC, 0, 0, 0, FILL, FILL, FILL, FILL]);
+const FILL_BITS: u64 = u64::from_le_bytes([FILL; 8]);
+const COPIES: u32 = 0x0101_0100;
+
+// Takes the whole piece, or stops just after the byte that completes a major frame: the bytes taken, and whether one is complete.
+pub fn take(t: &mut Tally, piece: &[u8], area: &mut [u8]) -> (usize, bool) {
+    let mut at = 0;
+    while at < piece.len() {
+        let (taken, complete) = step(t, &piece[at..], area);
+        at += taken;
+        if complete {
+            return (at, true);
+        }
+    }
+    (at, false)
+}
+
+fn step(t: &mut Tally, piece: &[u8], area: &mut [u8]) -> (usize, bool) {
+    if t.open != 0 || piece.len() < GROUP {
+        return (1, byte(t, piece[0], area));
+    }
+    let run = if t.hunting { hunt(t, piece) } else { place(t, piece) };
+    if run.bytes == 0 {
+        return next_group(t, piece, area);
+    }
+    run.count(t);
+    (run.bytes, false)
+}
+
+// How far nominal groups and FILL go, how many groups they are, and the last one's word.
+#[derive(Default)]
+struct Run {
+    bytes: usize,
+    words: usize,
+    last: u8,
+}
+
+impl Run {
+    fn past_fill(piece: &[u8]) -> Run {
+        Run { bytes: leading_fill(piece), ..Run::default() }
+    }
+
+    // Past n nominal parts of this width, and the FILL after them.
+    #[inline(always)]
+    fn pass(&mut self, piece: &[u8], width: usize, n: usize) {
+        if n != 0 {
+            self.bytes += n * width;
+            self.words += n;
+            self.last = piece[self.bytes - width + 1];
+            self.bytes += leading_fill(&piece[self.bytes..]);
+        }
+    }
+
+    fn count(&self, t: &mut Tally) {
+        t.bytes += self.bytes as u64;
+        t.fill += (self.bytes - GROUP * self.words) as u64;
+        t.voted += self.words as u64;
+        if self.words != 0 {
+            t.first = self.last;
+            t.second = self.last;
+        }
+    }
+}
+
+// Nominal groups and FILL, while no word can begin the sync.
+fn hunt(t: &mut Tally, piece: &[u8]) -> Run {
+    if t.matched != 0 {
+        return Run::default();
+    }
+    let goes_on = |word| word != FRAME_SYNC[0];
+    let mut run = Run::past_fill(piece);
+    let cells = piece[run.bytes..].chunks_exact(CELL).take_while(|c| is_cell(c) && goes_on(c[1])).count();
+    run.pass(piece, CELL, cells);
+    while let Some(g) = piece.get(run.bytes..run.bytes + GROUP) {
+        if !(is_group(g) && goes_on(g[1])) {
+            break;
+        }
+        run.pass(piece, GROUP, 1);
+    }
+    t.hunted += run.words as u64;
+    run
+}
+
+// Nominal groups and FILL, up to the last place: the group that fills it may end the call, so nothing after it is taken with it.
+fn place(t: &mut Tally, piece: &[u8]) -> Run {
+    let places = &mut t.frame[t.placed as usize..FRAME - 1];
+    let mut run = Run::past_fill(piece);
+    let cells = copy_cells(&piece[run.bytes..], places);
+    run.pass(piece, CELL, cells);
+    let groups = copy_pairs(&piece[run.bytes..], &mut places[run.words..]);
+    run.pass(piece, GROUP, groups);
+    // What is left: groups with FILL between them, of any other number.
+    for place in &mut places[run.words..] {
+        match piece.get(run.bytes..run.bytes + GROUP) {
+            Some(g) if is_group(g) => *place = g[1],
+            _ => break,
+        }
+        run.pass(piece, GROUP, 1);
+    }
+    t.placed += run.words as u64;
+    run
+}
+
+// The words of the cells that come first, as many as there are places: how many.
+#[inline(always)]
+fn copy_cells(piece: &[u8], places: &mut [u8]) -> usize {
+    let mut words = 0;
+    for (place, cell) in places.iter_mut().zip(piece.chunks_exact(CELL)) {
+        if !is_cell(cell) {
+            break;
+        }
+        *place = cell[1];
+        words += 1;
+    }
+    words
+}
+
+// The same of groups that follow each other, two at a time.
+#[inline(always)]
+fn copy_pairs(piece: &[u8], places: &mut [u8]) -> usize {
+    let mut words = 0;
+    for (place, pair) in places.chunks_exact_mut(2).zip(piece.chunks_exact(2 * GROUP)) {
+        if !is_pair(pair) {
+            break;
+        }
+        place[0] = pair[1];
+        place[1] = pair[1 + GROUP];
+        words += 2;
+    }
+    words
+}
+
+#[inline(always)]
+fn is_group(g: &[u8]) -> bool {
+    u32::from_le_bytes(g.try_into().unwrap()) == GROUP_BITS + COPIES * u32::from(g[1])
+}
+
+#[inline(always)]
+fn is_pair(p: &[u8]) -> bool {
+    let copies = u64::from(COPIES) * u64::from(p[1]) + (u64::from(COPIES) << 32) * u64::from(p[1 + GROUP]);
+    eight(p) == PAIR_BITS + copies
+}
+
+#[inline(always)]
+fn is_cell(c: &[u8]) -> bool {
+    eight(c) == CELL_BITS + u64::from(COPIES) * u64::from(c[1]) && c[8] == FILL
+}
+
+#[inline(always)]
+fn eight(b: &[u8]) -> u64 {
+    u64::from_le_bytes(b[..8].try_into().unwrap())
+}
+
+// None and one by branches, which the processor foresees; more by eights, with what it has to wait for, a count of bits, at the end.
+#[inline(always)]
+fn leading_fill(piece: &[u8]) -> usize {
+    if piece.first() != Some(&FILL) {
+        return 0;
+    }
+    if piece.get(1) != Some(&FILL) {
+        return 1;
+    }
+    let mut at = 0;
+    for part in piece.chunks_exact(8) {
+        let other = eight(part) ^ FILL_BITS;
+        if other != 0 {
+            return at + other.trailing_zeros() as usize / 8;
+        }
+        at += 8;
+    }
+    at + piece[at..].iter().take_while(|&&b| b == FILL).count()
+}
+
+// What stands before the next SYNC, and its group where the piece has the whole of it.
+fn next_group(t: &mut Tally, piece: &[u8], area: &mut [u8]) -> (usize, bool) {
+    let (at, fill) = before_sync(piece);
+    t.bytes += at as u64;
+    t.fill += fill as u64;
+    t.stray += (at - fill) as u64;
+    match piece.get(at..at + GROUP) {
+        Some(&[_, first, second, third]) => {
+            t.bytes += GROUP as u64;
+            t.first = first;
+            t.second = second;
+            (at + GROUP, group(t, third, area))
+        }
+        _ => (at, false),
+    }
+}
+
+// How many bytes there are before the first SYNC, and how many of them are FILL: by blocks, by eights, then one by one.
+fn before_sync(piece: &[u8]) -> (usize, usize) {
+    let (mut at, mut fill) = (0, 0);
+    for size in [BLOCK, 8, 1] {
+        for block in piece[at..].chunks_exact(size) {
+            if count(block, SYNC) != 0 {
+                break;
+            }
+            at += size;
+            fill += count(block, FILL);
+        }
+    }
+    (at, fill)
+}
+
+// A sum of bytes, so that it is done on whole vectors; a block has few enough.
+#[inline(always)]
+fn count(block: &[u8], wanted: u8) -> usize {
+    block.iter().map(|&b| u8::from(b == wanted)).sum::<u8>() as usize
+}
