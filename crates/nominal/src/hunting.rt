@@ -58,7 +58,7 @@ fn other_groups(piece: &[u8], before: Passed, end: usize) -> Passed
     let mut at = before.at;
     let mut words = before.words;
     let mut last = before.last;
-    while at < end {
+    while at < end + 5 {
         let x = piece[at + 1];
         if !numbers::is_group(piece, at, x) {
             return Passed {
@@ -85,8 +85,7 @@ fn other_groups(piece: &[u8], before: Passed, end: usize) -> Passed
     }
 }
 
-// Passes a nominal stretch that begins at `from` and has no word FA. It may find nothing, and leaves the last eight bytes of the piece to
-// the caller.
+// Passes a nominal stretch that begins at `from` and has no word FA. It may find nothing.
 pub fn pass(piece: &[u8], from: usize) -> Passed
     ensures { λ r. ⌜ Hunted (now (piece .entry)) from (r .at) (r .words) (r .last) ⌝ }
 {

@@ -12,26 +12,25 @@ pub struct Filled {
     pub placed: usize,
 }
 
-// Where `count` cells from `from` end, or `end` if that comes first.
-fn stop_of(from: usize, end: usize, count: usize) -> usize
-    requires { ⌜ count ≤ 127 ⌝ }
-    ensures { λ r. ⌜ (r ≤ from + 9 * count) × (r ≤ from + (end - from)) ⌝ }
+// `length` bytes after `from`, or `end` if that comes first.
+fn stop_of(from: usize, end: usize, length: usize) -> usize
+    ensures { λ r. ⌜ (r ≤ from + length) × (r ≤ from + (end - from)) ⌝ }
 {
     if end <= from {
         return from;
     }
-    if end - from < 9 * count {
+    if end - from < length {
         return end;
     }
-    from + 9 * count
+    from + length
 }
 
-// Cells. One bound serves both for the piece and for the frame.
+// Cells. One bound serves both for the piece and for the frame, here and in pairs.
 fn cells(piece: &[u8], from: usize, end: usize, start: usize, frame: &mut [u8; 128]) -> Filled
     requires { ⌜ (end + 8 ≤ length (now piece)) × (start ≤ 127) ⌝ }
     ensures { λ r. ⌜ Stored (now (piece .entry)) from (r .at) start (r .placed) (now (frame .entry)) (now (frame .exit)) ⌝ }
 {
-    let stop = stop_of(from, end, 127 - start);
+    let stop = stop_of(from, end, 9 * (127 - start));
     let mut at = from;
     let mut p = start;
     while at < stop {
@@ -51,12 +50,10 @@ fn pairs(piece: &[u8], from: usize, end: usize, start: usize, frame: &mut [u8; 1
     requires { ⌜ (end + 8 ≤ length (now piece)) × (start ≤ 127) ⌝ }
     ensures { λ r. ⌜ Stored (now (piece .entry)) from (r .at) start (r .placed) (now (frame .entry)) (now (frame .exit)) ⌝ }
 {
+    let stop = stop_of(from, end, 8 * ((127 - start) / 2));
     let mut at = from;
     let mut p = start;
-    while at < end {
-        if 126 <= p {
-            return Filled { at: at, placed: p };
-        }
+    while at < stop {
         let x = piece[at + 1];
         let y = piece[at + 5];
         if !numbers::is_pair(piece, at, x, y) {
@@ -70,14 +67,14 @@ fn pairs(piece: &[u8], from: usize, end: usize, start: usize, frame: &mut [u8; 1
     Filled { at: at, placed: p }
 }
 
-// Groups with any FILL after each.
+// Groups with any FILL after each. A group is shorter than a cell, so the bound is nearer to the end of the piece.
 fn groups(piece: &[u8], from: usize, end: usize, start: usize, frame: &mut [u8; 128]) -> Filled
     requires { ⌜ (end + 8 ≤ length (now piece)) × (start ≤ 127) ⌝ }
     ensures { λ r. ⌜ Stored (now (piece .entry)) from (r .at) start (r .placed) (now (frame .entry)) (now (frame .exit)) ⌝ }
 {
     let mut at = from;
     let mut p = start;
-    while at < end {
+    while at < end + 5 {
         if 127 <= p {
             return Filled { at: at, placed: p };
         }
@@ -93,7 +90,7 @@ fn groups(piece: &[u8], from: usize, end: usize, start: usize, frame: &mut [u8; 
 }
 
 // Puts the words of a nominal stretch that begins at `from` into the frame from `start` on. It may find nothing, and leaves the last place
-// of the frame and the last eight bytes of the piece to the caller.
+// of the frame to the caller.
 pub fn place(piece: &[u8], from: usize, start: usize, frame: &mut [u8; 128]) -> Filled
     ensures { λ r. ⌜ Stored (now (piece .entry)) from (r .at) start (r .placed) (now (frame .entry)) (now (frame .exit)) ⌝ }
 {

@@ -18,6 +18,9 @@ abbrev μ-loop : tie.MeasureT-loop
 loop-holds : tie.Need-loop-holds Inv-loop μ-loop
 loop-holds c = (λ i h. h, c .before .pre .1)
 
+add-loop : tie.Need-add-loop Inv-loop μ-loop
+add-loop c = omega arith
+
 add-x : tie.Need-add-x Inv-loop μ-loop
 add-x c = omega arith
 
@@ -61,6 +64,7 @@ other-groups-spec =
     Inv-loop
     μ-loop
     loop-holds
+    add-loop
     add-x
     shared-slice-read-x
     is-group-requires

@@ -22,6 +22,9 @@ loop-holds c =
     let s = c .before in
     (stored-none (s .args .from) (s .args .start) (now (s .args .frame)), omega arith)
 
+add-loop : tie.Need-add-loop Inv-loop μ-loop
+add-loop c = omega arith
+
 returns : tie.Need-returns Inv-loop μ-loop
 returns c = c .before .before .loop .inv .0
 
@@ -69,6 +72,7 @@ groups-spec =
     Inv-loop
     μ-loop
     loop-holds
+    add-loop
     returns
     add-x
     shared-slice-read-x

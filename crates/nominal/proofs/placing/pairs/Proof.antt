@@ -1,6 +1,7 @@
--- `nominal::placing::pairs` meets its contract: the groups so far are stored, and two more at each turn. Assumes nothing.
+-- `nominal::placing::pairs` meets its contract: the groups so far are stored, and two more at each turn. The position and the place go up together, so that one bound serves for both. Assumes nothing.
 use mathlib.Core.Path.{_≡_, refl}
-use Prim.Native.Nat.{_+_, _-_, _≤_}
+use mathlib.Core.List.{List}
+use Prim.Native.Nat.{ℕ, _+_, _*_, _-_}
 use native.Mathlib.Omega.{arith}
 use lib.ListN.{getD, set}
 use denote.Ref.{now}
@@ -10,19 +11,32 @@ use Rattle.nominal.proofs.Joining.{one-group, stored-none, stored-word,
 use Rattle.nominal.proofs.placing.pairs.Statement.{statement}
 use Rattle.nominal.proofs.placing.pairs.Tie as tie
 
+-- so many turns, and what they have stored
+record Paired (piece : List ℕ) (from start : ℕ) (frame₀ frame : List ℕ) (at p : ℕ) : Type 0 where
+  turns : ℕ
+  at-is : at ≡ from + 8 * turns
+  place-is : p ≡ start + 2 * turns
+  stored : Stored piece from at start p frame₀ frame
+
 abbrev Inv-loop : tie.InvT-loop
-Inv-loop piece from end start frame₀ at₀ p₀ frame at p = Stored piece from at start p frame₀ frame × (p ≤ 127)
+Inv-loop piece from end start frame₀ stop at₀ p₀ frame at p = Paired piece from start frame₀ frame at p
 
 abbrev μ-loop : tie.MeasureT-loop
-μ-loop piece from end start frame₀ at₀ p₀ frame at p = end - at
+μ-loop piece from end start frame₀ stop at₀ p₀ frame at p = stop - at
+
+sub-stop-of : tie.Need-sub-stop-of Inv-loop μ-loop
+sub-stop-of c = omega arith
+
+mul-stop-of : tie.Need-mul-stop-of Inv-loop μ-loop
+mul-stop-of c = omega arith
+
+stop-of-requires : tie.Need-stop-of-requires Inv-loop μ-loop
+stop-of-requires c κs = omega arith
 
 loop-holds : tie.Need-loop-holds Inv-loop μ-loop
 loop-holds c =
-    let s = c .before in
-    (stored-none (s .args .from) (s .args .start) (now (s .args .frame)), omega arith)
-
-returns : tie.Need-returns Inv-loop μ-loop
-returns c = c .before .before .loop .inv .0
+    let s = c .before .before in
+    record { turns = 0; at-is = omega arith; place-is = omega arith; stored = stored-none (s .args .from) (s .args .start) (now (s .args .frame)) }
 
 add-x : tie.Need-add-x Inv-loop μ-loop
 add-x c = omega arith
@@ -39,8 +53,8 @@ shared-slice-read-y c = omega arith
 is-pair-requires : tie.Need-is-pair-requires Inv-loop μ-loop
 is-pair-requires c κs = omega arith
 
-returns-2 : tie.Need-returns-2 Inv-loop μ-loop
-returns-2 c = c .before .before .before .before .before .before .loop .inv .0
+returns : tie.Need-returns Inv-loop μ-loop
+returns c = c .before .before .before .before .before .loop .inv .stored
 
 element-write-frame : tie.Need-element-write-frame Inv-loop μ-loop
 element-write-frame c = omega arith
@@ -62,16 +76,21 @@ loop-less c = omega arith
 
 loop-again : tie.Need-loop-again Inv-loop μ-loop
 loop-again c =
-    let k = c .before .before .before .before .before .before .loop in
+    let k = c .before .before .before .before .before .loop in
     let p = now (c .before .before .before .before .before .before .before .before .args .piece) in
-    let both = c .before .is-pair .ensures .0 (not-false _ (c .if2 .left)) in
-    let one = stored-join (k .inv .0) (stored-word (k .p) (k .frame) (omega arith) (one-group (both .0))) in
+    let both = c .before .is-pair .ensures .0 (not-false _ (c .if1 .left)) in
+    let one = stored-join (k .inv .stored) (stored-word (k .p) (k .frame) (omega arith) (one-group (both .0))) in
     let four : k .at + 4 + 4 ≡ k .at + 8 = omega arith in
     let two : k .p + 1 + 1 ≡ k .p + 2 = omega arith in
-    (rw (four, two) at (stored-join one (stored-word (k .p + 1) (set (k .frame) (k .p) (getD p (k .at + 1) 0)) (omega arith) (one-group (both .1)))), omega arith)
+    record {
+      turns = k .inv .turns + 1;
+      at-is = omega arith;
+      place-is = omega arith;
+      stored = rw (four, two) at (stored-join one (stored-word (k .p + 1) (set (k .frame) (k .p) (getD p (k .at + 1) 0)) (omega arith) (one-group (both .1))));
+    }
 
-returns-3 : tie.Need-returns-3 Inv-loop μ-loop
-returns-3 c = c .before .loop .inv .0
+returns-2 : tie.Need-returns-2 Inv-loop μ-loop
+returns-2 c = c .before .loop .inv .stored
 
 pub pairs-spec : {M : Type 1} → statement M
 pairs-spec =
@@ -79,14 +98,16 @@ pairs-spec =
     (tie.spec
     Inv-loop
     μ-loop
+    sub-stop-of
+    mul-stop-of
+    stop-of-requires
     loop-holds
-    returns
     add-x
     shared-slice-read-x
     add-y
     shared-slice-read-y
     is-pair-requires
-    returns-2
+    returns
     element-write-frame
     add-frame
     element-write-frame-2
@@ -94,4 +115,4 @@ pairs-spec =
     add-at
     loop-less
     loop-again
-    returns-3)
+    returns-2)
