@@ -36,6 +36,7 @@ pub struct State {
     pub frame: [u8; FRAME],
 }
 
+// A refused call leaves u64::MAX in the last two.
 pub struct Taken {
     pub refusal: u8,
     pub taken: u64,

@@ -85,8 +85,10 @@ fn hunt(t: &mut Tally, piece: &[u8]) -> Run {
     }
     let goes_on = |word| word != FRAME_SYNC[0];
     let mut run = Run::past_fill(piece);
-    let cells = piece[run.bytes..].chunks_exact(CELL).take_while(|c| is_cell(c) && goes_on(c[1])).count();
-    run.pass(piece, CELL, cells);
+    for _ in 0..2 {
+        let cells = piece[run.bytes..].chunks_exact(CELL).take_while(|c| is_cell(c) && goes_on(c[1])).count();
+        run.pass(piece, CELL, cells);
+    }
     while let Some(g) = piece.get(run.bytes..run.bytes + GROUP) {
         if !(is_group(g) && goes_on(g[1])) {
             break;
@@ -101,8 +103,11 @@ fn hunt(t: &mut Tally, piece: &[u8]) -> Run {
 fn place(t: &mut Tally, piece: &[u8]) -> Run {
     let places = &mut t.frame[t.placed as usize..FRAME - 1];
     let mut run = Run::past_fill(piece);
-    let cells = copy_cells(&piece[run.bytes..], places);
-    run.pass(piece, CELL, cells);
+    // Twice, since a sixth FILL comes once in a frame or so.
+    for _ in 0..2 {
+        let cells = copy_cells(&piece[run.bytes..], &mut places[run.words..]);
+        run.pass(piece, CELL, cells);
+    }
     let groups = copy_pairs(&piece[run.bytes..], &mut places[run.words..]);
     run.pass(piece, GROUP, groups);
     // What is left: groups with FILL between them, of any other number.

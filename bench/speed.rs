@@ -23,7 +23,7 @@ use tally::{Tally, AREA};
 
 const ROUNDS: usize = 5;
 const MIB: usize = 1 << 20;
-const STREAMS: [&str; 4] = ["five FILL", "no FILL", "five, bad", "random"];
+const STREAMS: [&str; 5] = ["five FILL", "no FILL", "five, bad", "random", "as timed"];
 
 type Take = fn(&mut Tally, &[u8], &mut [u8]) -> (usize, bool);
 
@@ -64,10 +64,11 @@ fn main() {
 fn stream_of(name: &str, n: usize) -> Vec<u8> {
     let mut r = Random(3);
     match name {
-        "five FILL" => reel(n, 5),
-        "no FILL" => reel(n, 0),
+        "five FILL" => reel(n, || 5),
+        "no FILL" => reel(n, || 0),
+        "as timed" => reel(n, timed()),
         "five, bad" => {
-            let mut bytes = reel(n, 5);
+            let mut bytes = reel(n, || 5);
             for b in bytes.iter_mut() {
                 if r.one_in(5000) {
                     *b = r.byte();
@@ -83,15 +84,30 @@ fn stream_of(name: &str, n: usize) -> Vec<u8> {
     }
 }
 
-// A lead-in and major frames, cut off at n bytes.
-fn reel(n: usize, spacing: usize) -> Vec<u8> {
+// The FILL after each word as the book times it (DFCB 3.2.7.1): a word's cycle is 250 microseconds and a read 27.7652, which makes 9.004
+// reads a cycle. So a sixth FILL comes once in 245 words.
+fn timed() -> impl FnMut() -> usize {
+    let (mut words, mut reads) = (0.0f64, 0.0f64);
+    move || {
+        words += 1.0;
+        let more = (words * 250.0 / 27.7652).floor() - reads;
+        reads += more;
+        more as usize - 4
+    }
+}
+
+// A lead-in and major frames with so many FILL after each word, cut off at n bytes.
+fn reel(n: usize, mut fill: impl FnMut() -> usize) -> Vec<u8> {
     let mut r = Random(7);
-    let mut out = Vec::with_capacity(n + 128 * (4 + spacing));
-    stream::put_lead_in(&mut out, spacing);
+    let mut out = Vec::with_capacity(n + 2048);
+    for word in tally::FRAME_SYNC {
+        stream::put_word(&mut out, word, fill());
+    }
     let mut number = 0;
     while out.len() < n {
-        let frame = stream::frame(&mut r, number, Data::Any);
-        stream::put_frame(&mut out, &frame, spacing);
+        for word in stream::frame(&mut r, number, Data::Any) {
+            stream::put_word(&mut out, word, fill());
+        }
         number = (number + 1) % 128;
     }
     out.truncate(n);
@@ -197,7 +213,7 @@ fn linearity() {
             println!("{mib:>5} MiB   skipped: too little memory");
             continue;
         }
-        let bytes = reel(mib * MIB, 5);
+        let bytes = reel(mib * MIB, || 5);
         let best = (0..ROUNDS).map(|_| seconds(|| proved(&bytes, bytes.len())).1).fold(f64::INFINITY, f64::min);
         println!("{mib:>5} MiB   {:.3}", best * 1e9 / bytes.len() as f64);
     }

@@ -256,11 +256,14 @@ pub fn any_stream(r: &mut Random, rare: usize) -> Vec<u8> {
         }
         _ => {
             let (n, from) = (1 + r.below(12), if r.one_in(3) { r.below(130) as u8 % 128 } else { 0 });
-            let spacing = if r.one_in(4) { None } else { Some(r.below(3)) };
+            let spacing = if r.one_in(4) { None } else { Some([0, 1, 2, 5, 5, 5][r.below(6)]) };
             let rate = 2 + r.below(6);
             reel(r, n, from, spacing, &Faults(rate))
         }
     };
+    if r.one_in(3) {
+        slip(r, &mut bytes);
+    }
     if r.one_in(3) {
         let rate = 20 + r.below(2000);
         disturb(r, &mut bytes, rate);
@@ -274,11 +277,24 @@ pub fn any_stream(r: &mut Random, rare: usize) -> Vec<u8> {
     bytes
 }
 
+// One FILL more after some of them, as now and then from the spacecraft (DFCB 3.2.7.1), or often.
+fn slip(r: &mut Random, bytes: &mut Vec<u8>) {
+    let rate = if r.one_in(2) { 1225 } else { 1 + r.below(200) };
+    let mut out = Vec::with_capacity(bytes.len() + bytes.len() / 4);
+    for &b in bytes.iter() {
+        out.push(b);
+        if b == FILL && r.one_in(rate) {
+            out.push(FILL);
+        }
+    }
+    *bytes = out;
+}
+
 // One to three major frames, whole or with few faults, now and then after frames that lead up to them.
 fn long_stream(r: &mut Random) -> Vec<u8> {
     let from = if r.one_in(2) { 0 } else { 128 - r.below(6) as u8 };
     let lead = (128 - from as usize) % 128;
-    let (frames, spacing) = (lead + 128 * (1 + r.below(2)) + r.below(4), r.below(3));
+    let (frames, spacing) = (lead + 128 * (1 + r.below(2)) + r.below(4), [0, 1, 2, 5][r.below(4)]);
     let faults = Faults(if r.one_in(2) { 0 } else { 60 + r.below(400) });
     let mut bytes = reel(r, frames, from % 128, Some(spacing), &faults);
     if r.one_in(4) {

@@ -52,14 +52,18 @@ numbersOf t = groupNumbers (t .groups) ++ framingNumbers (t .framing) ++ runNumb
 
 -- ---- what the entries promise
 
+-- what an accepted call leaves in a place, and a refused one what was there
+abbrev pub leftBy : Call → List ℕ → List ℕ → List ℕ
+leftBy c old new = cond (eqb (takeRefusal c) 0) new old
+
 -- `pcd_take` of the call c returns r and leaves the lent numbers, frame, area and answer: the bytes taken, and whether a major frame is
 -- complete
-pub record TakeCrossed (c : Call) (r : ℕ) (numbers frame area out : List ℕ) : Type 0 where
+pub record TakeCrossed (c : Call) (r : ℕ) (numbers numbers′ frame area out out′ : List ℕ) : Type 0 where
   pub refusal-is : r ≡ takeRefusal c
-  pub numbers-is : numbers ≡ numbersOf (answer byteVote c .tally)
+  pub numbers-is : numbers′ ≡ leftBy c numbers (numbersOf (answer byteVote c .tally))
   pub frame-is : frame ≡ answer byteVote c .tally .frame
   pub area-is : area ≡ answer byteVote c .area
-  pub answer-is : out ≡ answer byteVote c .taken ∷ flag (answer byteVote c .complete) ∷ []
+  pub answer-is : out′ ≡ leftBy c out (answer byteVote c .taken ∷ flag (answer byteVote c .complete) ∷ [])
 
 -- `pcd_fresh` leaves the lent numbers and frame
 pub record FreshCrossed (numbers frame : List ℕ) : Type 0 where

@@ -35,8 +35,8 @@ pub extern "C" fn pcd_fresh(numbers: &mut [u64; 20], frame: &mut [u8; 128])
     put_tally(t, numbers, frame);
 }
 
-// Takes a piece of the stream. Returns the number of the refusal, 0 for none; `answer` holds the bytes taken, then 1 where a major frame
-// is complete and 0 where none is.
+// Takes a piece of the stream. Returns the number of the refusal, 0 for none; a refusal writes nothing. `answer` gets the bytes taken, then
+// 1 where a major frame is complete and 0 where none is.
 #[no_mangle]
 pub extern "C" fn pcd_take(
     numbers: &mut [u64; 20],
@@ -48,15 +48,18 @@ pub extern "C" fn pcd_take(
     ensures { λ r. ⌜ TakeCrossed
         (callOf (tallyOf (now (numbers .entry)) (now (frame .entry))) (now (piece .entry)) (now (area .entry)))
         r
-        (now (numbers .exit)) (now (frame .exit)) (now (area .exit)) (now (answer .exit)) ⌝ }
+        (now (numbers .entry)) (now (numbers .exit)) (now (frame .exit)) (now (area .exit)) (now (answer .entry)) (now (answer .exit)) ⌝ }
 {
     let t = tally_of(&*numbers, &*frame);
     let r = reader::take(t, piece, area);
+    if r.refusal != 0 {
+        return r.refusal;
+    }
     let left = r.tally;
     put_tally(left, numbers, frame);
     let complete = flag(r.complete);
     *answer = [r.taken as u64, complete];
-    r.refusal
+    0
 }
 
 fn tally_of(n: &[u64; 20], frame: &[u8; 128]) -> Tally

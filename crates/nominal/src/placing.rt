@@ -108,8 +108,11 @@ pub fn place(piece: &[u8], from: usize, start: usize, frame: &mut [u8; 128]) -> 
     }
     let end = piece.len() - 8;
     let at = fill::skip_fill(piece, from, end);
-    let c = cells(piece, at, end, start, frame);
-    let next = fill::skip_fill(piece, c.at, end);
-    let p = pairs(piece, next, end, c.placed, frame);
+    let first = cells(piece, at, end, start, frame);
+    // A cycle of the spacecraft has 9.004 words, so that a sixth FILL comes once in 245 words or so: once in a frame at most.
+    let after = fill::skip_fill(piece, first.at, end);
+    let second = cells(piece, after, end, first.placed, frame);
+    let next = fill::skip_fill(piece, second.at, end);
+    let p = pairs(piece, next, end, second.placed, frame);
     groups(piece, p.at, end, p.placed, frame)
 }
