@@ -3,7 +3,6 @@
 use mathlib.Core.Path.{_≡_, refl, sym, ap, _∙_, subst}
 use mathlib.Core.Bool.{Bool, true, false, _||_}
 use mathlib.Core.List.{List, [], _∷_}
-use mathlib.Core.Option.{some}
 use Prim.Native.Nat.{ℕ, zero, suc, _+_, _*_, _-_, _≤_, _<_}
 use native.Mathlib.Nat.{zero-add, add-zero}
 use native.Mathlib.Numerals.{add-one}
@@ -18,7 +17,7 @@ use Rattle.labelling.specs.declared.Tally.{Tally}
 use Rattle.labelling.specs.declared.Word.{Word}
 use Rattle.labelling.specs.declared.Word.the-variants.{Voted}
 use Rattle.labelling.specs.Words.{SYNC, FILL, outside, byteVote}
-use Rattle.labelling.specs.Machine.{Now, afterClosing, wordEvent, wordStep, byteStep}
+use Rattle.labelling.specs.Machine.{Now, wordEvent, byteStep}
 use Rattle.labelling.specs.Calls.{plus, feed}
 use Rattle.labelling.proofs.Ordered.{Ordered, ordered-byte, bytes-byte}
 use Rattle.labelling.proofs.Feeding.{loop-more}
@@ -53,7 +52,7 @@ module _ {p a : List ℕ} where
 
 -- ---- one byte
 
--- n bytes, of which the group has the first copies x and y
+-- n bytes more, of which k are those of the open group, with the copies x and y
 abbrev pub opened : Tally → ℕ → ℕ → ℕ → ℕ → Tally
 opened t n k x y = record {
   groups = record { bytes = t .groups .bytes + n; fill = t .groups .fill; stray = t .groups .stray; voted = t .groups .voted; split = t .groups .split; «open» = k; first = x; second = y };
@@ -84,12 +83,6 @@ module _ (t : Tally) (a : List ℕ) where
   second-byte : (b x y s : ℕ) → b ≡ y → byteStep byteVote (opened t 2 2 x s) a b ≡ record { tally = opened t 3 3 x y; area = a; complete = false }
   unfolding byteStep
   second-byte b x y s e = let n : t .groups .bytes + 2 + 1 ≡ t .groups .bytes + 3 = omega arith in rw (e, n)
-
-  -- the third closes the group
-  pub third-byte : (x y b : ℕ) → let w = byteVote x y b in
-      byteStep byteVote (opened t 3 3 x y) a b ≡ wordStep (some w) (afterClosing w (opened t 3 3 x y .groups)) t a
-  unfolding byteStep
-  third-byte x y b = refl
 
 vote-same : (x : ℕ) → byteVote x x x ≡ Voted x
 unfolding byteVote

@@ -5,10 +5,8 @@ use mathlib.Core.List.{List, [], _∷_}
 use mathlib.Core.Option.{Option, none, some}
 use Prim.Native.Nat.{ℕ, zero, suc, _+_, _*_, _-_, _≤_, _<_, _^_}
 use native.Mathlib.Omega.{arith}
-use lib.Dec.{ltb}
 use lib.ListN.{length, drop, getD, set, length-set}
 use lib.Seq.{sets, getD-set-same}
-use borrow.Author.Tests.{ltb-true, ltb-false}
 use Rattle.labelling.specs.declared.Framing.{Framing}
 use Rattle.labelling.specs.declared.Groups.{Groups}
 use Rattle.labelling.specs.declared.Runs.{Runs}
@@ -24,7 +22,7 @@ use Rattle.labelling.proofs.Feeding.{loop-more, loop-complete}
 use Rattle.nominal.specs.Stretches.{Byte, Nominal, NoneBegins, Stored, Hunted, Quiet, lastOr}
 use Rattle.nominal.specs.Effect.{PlainSteps, stays, byte, withWords, withQuiet, withPlaced, withHunted, afterQuiet, afterPlaced, afterHunted}
 use Rattle.nominal.proofs.Joining.{nominal-far, nominal-inside, quiet-far, quiet-inside}
-use Rattle.nominal.proofs.Effect.{plain-join, plain-feed, plain-ordered, plain-bytes, group-opens, third-byte, quiet-plain, placed-plain, hunted-plain, opened as openedTally}
+use Rattle.nominal.proofs.Effect.{plain-join, plain-feed, plain-ordered, plain-bytes, group-opens, quiet-plain, placed-plain, hunted-plain}
 use Rattle.reader.specs.declared.run.Layers.{Layers}
 use Rattle.reader.specs.declared.run.Stepped.{Stepped}
 use Rattle.reader.specs.Onward.{goesOn, Onward, Words, opened}
@@ -117,15 +115,6 @@ onward-join g h = record {
   frame-length = h .frame-length;
 }
 
--- where four bytes are left, one of the two parts moves on
-pub moved : {p : List ℕ} {i j k : ℕ} {t u v : Tally} {a a′ a″ : List ℕ} {c : Bool} → Onward p i t a j u a′ false → Onward p j u a′ k v a″ c
-    → (j + 4 ≤ length p → j < k) → 4 ≤ length p - i → i < k
-moved {p} {i} {j} {k} g h more room = go (ltb i j) refl
-  where
-    go : (b : Bool) → ltb i j ≡ b → i < k
-    go true e = omega (arith, ltb-true i j e, h .forward)
-    go false e = let same = ltb-false i j e in omega (arith, more (omega (arith, g .forward)), g .forward)
-
 -- what the next part finds
 pub onward-begun : {p : List ℕ} {i j : ℕ} {t u : Tally} {a a′ : List ℕ} {c : Bool} → Onward p i t a j u a′ c → Begun p i t → Begun p j u
 onward-begun g b = record { order = g .order; inside = g .within; limit = omega (arith, g .bytes-are, g .forward, g .within, b .limit); frame-length = g .frame-length }
@@ -210,19 +199,8 @@ module _ (l : Layers) (frame p : List ℕ) (i : ℕ) (b : Begun p i (tallyOf l f
       → Onward p i t a j (tallyOf (layersOf g (l .framing) (l .runs)) frame) a false
   quiet-onward a q g e = rw e (plain-onward (quiet-plain {a = a} q t closed) b)
 
-  -- a quiet stretch, and a group of any copies
-  pub group-onward : (j k x y : ℕ) (a : List ℕ) (w : Word) (g g′ : Groups) (s : Stepped) (frame′ a′ : List ℕ) → Quiet p i j k → Byte p j SYNC → j + 3 < length p
-      → getD p (j + 1) 0 ≡ x → getD p (j + 2) 0 ≡ y → w ≡ byteVote x y (getD p (j + 3) 0) → g ≡ withQuiet (l .groups) (j - i) k → g′ ≡ afterClosing w (opened g x y)
-      → nowOf s frame′ a′ ≡ wordStep (some w) g′ (tallyOf (layersOf g′ (l .framing) (l .runs)) frame) a
-      → Onward p i t a (j + 4) (tallyOf (s .layers) frame′) a′ (s .complete)
-  group-onward j k x y a w g g′ s frame′ a′ q sync h ex ey ew eg eg′ e =
-      let t′ : Tally = afterQuiet t (j - i) k in
-      let third : j + 3 + 1 ≡ j + 4 = omega arith in
-      let first : Byte p (j + 1) x = record { inside = omega arith; is = ex } in
-      let second : Byte p (j + 2) y = record { inside = omega arith; is = ey } in
-      let two : Onward p i t a (j + 3) (openedTally t′ 3 3 x y) a false =
-      plain-onward (plain-join (quiet-plain {a = a} q t closed) (group-opens t′ closed sync first second)) b in
-      let begun : Begun p (j + 3) (openedTally t′ 3 3 x y) = onward-begun two b in
-      let last : nowOf s frame′ a′ ≡ byteStep byteVote (openedTally t′ 3 3 x y) a (getD p (j + 3) 0) =
-      e ∙ rw (eg′, eg, ew) (sym (third-byte t′ a x y (getD p (j + 3) 0))) in
-      onward-join two (rw third at (now-onward p (j + 3) (openedTally t′ 3 3 x y) a (nowOf s frame′ a′) last h (begun .order) (omega (arith, begun .limit)) (begun .frame-length)))
+  -- and then SYNC and two copies
+  pub opened-onward : {j k x y : ℕ} (a : List ℕ) → Quiet p i j k → Byte p j SYNC → Byte p (j + 1) x → Byte p (j + 2) y → (g : Groups)
+      → g ≡ withQuiet (l .groups) (j - i) k → Onward p i t a (j + 3) (tallyOf (layersOf (opened g x y) (l .framing) (l .runs)) frame) a false
+  opened-onward {j} {k} a q sync x y g e =
+      rw e (plain-onward (plain-join (quiet-plain {a = a} q t closed) (group-opens (afterQuiet t (j - i) k) closed sync x y)) b)

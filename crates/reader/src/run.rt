@@ -1,6 +1,6 @@
 // The three layers joined: a byte, and a piece.
 ghost use mathlib.Core.Path.{_≡_};
-ghost use mathlib.Core.Bool.{true, false};
+ghost use mathlib.Core.Bool.{true};
 ghost use mathlib.Core.Option.{some};
 ghost use Prim.Native.Nat.{_+_, _-_, _≤_, _<_, _^_};
 ghost use lib.ListN.{length};
@@ -40,7 +40,7 @@ pub(crate) struct Ran {
 }
 
 // A word that a closed group gave.
-pub(crate) fn word_step(l: Layers, w: Word, frame: &mut [u8; 128], area: &mut [u8]) -> Stepped
+fn word_step(l: Layers, w: Word, frame: &mut [u8; 128], area: &mut [u8]) -> Stepped
     requires { ⌜ FramingRoom (l .framing) × RunsRoom (l .runs) ⌝ }
     requires { ⌜ (length (now area) ≡ 16384) × (length (now frame) ≡ 128) ⌝ }
     ensures { λ r. ⌜ nowOf r (now (frame .exit)) (now (area .exit)) ≡ wordStep (some w) (l .groups) (tallyOf l (now (frame .entry))) (now (area .entry)) ⌝ }
@@ -108,30 +108,23 @@ fn one_byte(l: Layers, piece: &[u8], at: usize, frame: &mut [u8; 128], area: &mu
     }
 }
 
-// The bytes of an open group come one at a time, and so do the last three of a piece, in which no group is whole. Everywhere else a
-// nominal stretch is taken, and the group that ends it.
-fn bytewise(opened: u64, left: usize) -> bool
-    ensures { λ r. ⌜ (r ≡ false → (opened ≡ 0) × (4 ≤ left)) ⌝ }
-{
-    if opened != 0 {
-        return true;
-    }
-    left < 4
-}
-
-// A byte, or a stretch: some of the piece, and no more than one closed frame.
+// A stretch, and the byte after it, by the plain step: so all that closes a frame goes one way.
 fn advance(l: Layers, piece: &[u8], at: usize, frame: &mut [u8; 128], area: &mut [u8]) -> Ran
     requires { ⌜ (inOrder (tallyOf l (now frame)) ≡ true) × (at < length (now piece)) × (l .groups .bytes + (length (now piece) - at) ≤ 2 ^ 40) ⌝ }
     requires { ⌜ (length (now area) ≡ 16384) × (length (now frame) ≡ 128) ⌝ }
     ensures { λ r. ⌜ Onward (now (piece .entry)) at (tallyOf l (now (frame .entry))) (now (area .entry)) (r .taken) (tallyOf (r .layers) (now (frame .exit))) (now (area .exit)) (r .complete) ⌝ }
     ensures { λ r. ⌜ at < r .taken ⌝ }
 {
-    if bytewise(l.groups.open, piece.len() - at) {
-        return one_byte(l, piece, at, frame, area);
-    }
-    let r = stretch::nominal_run(l, piece, at, frame);
+    let r = stretch::reach(l, piece, at, frame);
     let next = r.layers;
-    stretch::group_run(next, piece, r.taken, frame, area)
+    if piece.len() <= r.at {
+        return Ran {
+            layers: next,
+            taken: r.at,
+            complete: false,
+        };
+    }
+    one_byte(next, piece, r.at, frame, area)
 }
 
 // A piece, as far as the byte that completes a major frame.

@@ -5,18 +5,19 @@ ghost use mathlib.Core.Bool.{true, false};
 ghost use mathlib.Core.List.{List};
 ghost use Prim.Native.Nat.{ℕ, _+_, _*_, _-_, _≤_, _<_, _^_};
 ghost use lib.ListN.{length, getD};
-ghost use Rattle.labelling.specs.Machine.{afterClosing};
 ghost use Rattle.labelling.specs.Order.{inOrder};
 ghost use Rattle.nominal.specs.Effect.{withWords, withQuiet};
-ghost use Rattle.reader.specs.Onward.{Onward, Words, opened};
+ghost use Rattle.reader.specs.Onward.{Onward, Words, opened as openedWith};
 ghost use Rattle.reader.specs.Room.{GroupsRoom, FramingRoom};
 ghost use Rattle.reader.specs.Shapes.{tallyOf};
-use crate::groups;
-use crate::run;
 use crate::run::Layers;
-use crate::run::Ran;
 use labelling::Groups;
-use labelling::Word;
+
+// How far a stretch leads. Nothing is complete there.
+pub(crate) struct Reached {
+    pub(crate) layers: Layers,
+    pub(crate) at: usize,
+}
 
 // n bytes more: FILL, and a group for each of w words, of which x is the last.
 fn after_words(g: Groups, n: u64, w: u64, x: u8) -> Groups
@@ -47,17 +48,17 @@ fn after_quiet(g: Groups, n: u64, k: u64) -> Groups
     next
 }
 
-// SYNC and three copies more, which give w.
-fn after_group(g: Groups, x: u8, y: u8, w: Word) -> Groups
-    requires { ⌜ GroupsRoom g × (g .bytes + 4 ≤ 2 ^ 40) ⌝ }
-    ensures { λ r. ⌜ r ≡ afterClosing w (opened g x y) ⌝ }
+// SYNC and two copies more.
+fn opened(g: Groups, x: u8, y: u8) -> Groups
+    requires { ⌜ g .bytes ≤ 2 ^ 40 ⌝ }
+    ensures { λ r. ⌜ r ≡ openedWith g x y ⌝ }
 {
     let mut next = g;
     next.bytes += 3;
     next.open = 3;
     next.first = x;
     next.second = y;
-    groups::close_group(next, w)
+    next
 }
 
 // The last word of the frame.
@@ -72,10 +73,10 @@ fn last_of(frame: &[u8; 128], placed: usize) -> u8
 }
 
 // A nominal stretch while words are placed.
-fn place_run(l: Layers, piece: &[u8], at: usize, frame: &mut [u8; 128]) -> Ran
+fn place_run(l: Layers, piece: &[u8], at: usize, frame: &mut [u8; 128]) -> Reached
     requires { ⌜ (inOrder (tallyOf l (now frame)) ≡ true) × (at ≤ length (now piece)) × (l .groups .bytes + (length (now piece) - at) ≤ 2 ^ 40) ⌝ }
     requires { ⌜ (l .groups .«open» ≡ 0) × (l .framing .hunting ≡ false) × (length (now frame) ≡ 128) ⌝ }
-    ensures { λ r. ⌜ ((a : List ℕ) → Onward (now (piece .entry)) at (tallyOf l (now (frame .entry))) a (r .taken) (tallyOf (r .layers) (now (frame .exit))) a false) ⌝ }
+    ensures { λ r. ⌜ ((a : List ℕ) → Onward (now (piece .entry)) at (tallyOf l (now (frame .entry))) a (r .at) (tallyOf (r .layers) (now (frame .exit))) a false) ⌝ }
     ensures { λ r. ⌜ r .layers .groups .«open» ≡ 0 ⌝ }
 {
     let start = l.framing.placed as usize;
@@ -88,26 +89,21 @@ fn place_run(l: Layers, piece: &[u8], at: usize, frame: &mut [u8; 128]) -> Ran
         last_of(frame, r.placed),
     );
     next.framing.placed = r.placed as u64;
-    Ran {
+    Reached {
         layers: next,
-        taken: r.at,
-        complete: false,
+        at: r.at,
     }
 }
 
 // A nominal stretch while the sync is hunted. Where some of it is matched already, the next word is left to the plain step.
-fn hunt_run(l: Layers, piece: &[u8], at: usize) -> Ran
+fn hunt_run(l: Layers, piece: &[u8], at: usize) -> Reached
     requires { ⌜ GroupsRoom (l .groups) × FramingRoom (l .framing) × (at ≤ length (now piece)) × (l .groups .bytes + (length (now piece) - at) ≤ 2 ^ 40) ⌝ }
     requires { ⌜ (l .groups .«open» ≡ 0) × (l .framing .hunting ≡ true) ⌝ }
-    ensures { λ r. ⌜ ((frame a : List ℕ) → inOrder (tallyOf l frame) ≡ true → length frame ≡ 128 → Onward (now (piece .entry)) at (tallyOf l frame) a (r .taken) (tallyOf (r .layers) frame) a false) ⌝ }
+    ensures { λ r. ⌜ ((frame a : List ℕ) → inOrder (tallyOf l frame) ≡ true → length frame ≡ 128 → Onward (now (piece .entry)) at (tallyOf l frame) a (r .at) (tallyOf (r .layers) frame) a false) ⌝ }
     ensures { λ r. ⌜ r .layers .groups .«open» ≡ 0 ⌝ }
 {
     if l.framing.matched != 0 {
-        return Ran {
-            layers: l,
-            taken: at,
-            complete: false,
-        };
+        return Reached { layers: l, at: at };
     }
     let r = nominal::pass(piece, at);
     let mut next = l;
@@ -115,18 +111,17 @@ fn hunt_run(l: Layers, piece: &[u8], at: usize) -> Ran
     let mut f = l.framing;
     f.hunted += r.words;
     next.framing = f;
-    Ran {
+    Reached {
         layers: next,
-        taken: r.at,
-        complete: false,
+        at: r.at,
     }
 }
 
 // What is nominal from `at` on. It may be nothing.
-pub(crate) fn nominal_run(l: Layers, piece: &[u8], at: usize, frame: &mut [u8; 128]) -> Ran
+fn nominal_run(l: Layers, piece: &[u8], at: usize, frame: &mut [u8; 128]) -> Reached
     requires { ⌜ (inOrder (tallyOf l (now frame)) ≡ true) × (at ≤ length (now piece)) × (l .groups .bytes + (length (now piece) - at) ≤ 2 ^ 40) ⌝ }
     requires { ⌜ (l .groups .«open» ≡ 0) × (length (now frame) ≡ 128) ⌝ }
-    ensures { λ r. ⌜ ((a : List ℕ) → Onward (now (piece .entry)) at (tallyOf l (now (frame .entry))) a (r .taken) (tallyOf (r .layers) (now (frame .exit))) a false) ⌝ }
+    ensures { λ r. ⌜ ((a : List ℕ) → Onward (now (piece .entry)) at (tallyOf l (now (frame .entry))) a (r .at) (tallyOf (r .layers) (now (frame .exit))) a false) ⌝ }
     ensures { λ r. ⌜ r .layers .groups .«open» ≡ 0 ⌝ }
 {
     if l.framing.hunting {
@@ -135,40 +130,41 @@ pub(crate) fn nominal_run(l: Layers, piece: &[u8], at: usize, frame: &mut [u8; 1
     place_run(l, piece, at, frame)
 }
 
-// What stands before the next SYNC, and its group, if that is whole: of any copies, at any place of the frame.
-pub(crate) fn group_run(
-    l: Layers,
-    piece: &[u8],
-    at: usize,
-    frame: &mut [u8; 128],
-    area: &mut [u8],
-) -> Ran
-    requires { ⌜ (inOrder (tallyOf l (now frame)) ≡ true) × (at ≤ length (now piece)) × (l .groups .bytes + (length (now piece) - at) ≤ 2 ^ 40) ⌝ }
-    requires { ⌜ (l .groups .«open» ≡ 0) × (length (now area) ≡ 16384) × (length (now frame) ≡ 128) ⌝ }
-    ensures { λ r. ⌜ Onward (now (piece .entry)) at (tallyOf l (now (frame .entry))) (now (area .entry)) (r .taken) (tallyOf (r .layers) (now (frame .exit))) (now (area .exit)) (r .complete) ⌝ }
-    ensures { λ r. ⌜ (at + 4 ≤ length (now (piece .entry)) → at < r .taken) ⌝ }
+// What stands before the next SYNC; and where a whole group follows, that SYNC and two copies.
+fn open_group(l: Layers, piece: &[u8], at: usize) -> Reached
+    requires { ⌜ GroupsRoom (l .groups) × (at ≤ length (now piece)) × (l .groups .bytes + (length (now piece) - at) ≤ 2 ^ 40) ⌝ }
+    requires { ⌜ l .groups .«open» ≡ 0 ⌝ }
+    ensures { λ r. ⌜ ((frame a : List ℕ) → inOrder (tallyOf l frame) ≡ true → length frame ≡ 128 → Onward (now (piece .entry)) at (tallyOf l frame) a (r .at) (tallyOf (r .layers) frame) a false) ⌝ }
 {
     let skipped = nominal::skip(piece, at);
     let j = skipped.at;
     let mut next = l;
-    next.groups = after_quiet(l.groups, (j - at) as u64, skipped.stray);
+    let g = after_quiet(l.groups, (j - at) as u64, skipped.stray);
     if piece.len() - j < 4 {
-        return Ran {
+        next.groups = g;
+        return Reached {
             layers: next,
-            taken: j,
-            complete: false,
+            at: j,
         };
     }
-    let end = j + 4;
-    let x = piece[j + 1];
-    let y = piece[j + 2];
-    let w = groups::vote(x, y, piece[j + 3]);
-    next.groups = after_group(next.groups, x, y, w);
-    let s = run::word_step(next, w, frame, area);
-    let left = s.layers;
-    Ran {
-        layers: left,
-        taken: end,
-        complete: s.complete,
+    next.groups = opened(g, piece[j + 1], piece[j + 2]);
+    Reached {
+        layers: next,
+        at: j + 3,
     }
+}
+
+// As far as nothing can close but FILL and nominal groups before the last place: up to the third copy of any other group, a group that is
+// open already, or the last bytes of the piece.
+pub(crate) fn reach(l: Layers, piece: &[u8], at: usize, frame: &mut [u8; 128]) -> Reached
+    requires { ⌜ (inOrder (tallyOf l (now frame)) ≡ true) × (at ≤ length (now piece)) × (l .groups .bytes + (length (now piece) - at) ≤ 2 ^ 40) ⌝ }
+    requires { ⌜ length (now frame) ≡ 128 ⌝ }
+    ensures { λ r. ⌜ ((a : List ℕ) → Onward (now (piece .entry)) at (tallyOf l (now (frame .entry))) a (r .at) (tallyOf (r .layers) (now (frame .exit))) a false) ⌝ }
+{
+    if l.groups.open != 0 {
+        return Reached { layers: l, at: at };
+    }
+    let r = nominal_run(l, piece, at, frame);
+    let next = r.layers;
+    open_group(next, piece, r.at)
 }
