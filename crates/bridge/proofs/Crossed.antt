@@ -11,7 +11,7 @@ use Rattle.labelling.specs.Calls.{Call, Answer, answer, takeRefusal}
 use Rattle.labelling.specs.Machine.{fresh}
 use Rattle.labelling.proofs.CallLaws.{refused-answer}
 use Rattle.reader.specs.declared.Taken.{Taken}
-use Rattle.reader.specs.Shapes.{TakePromise, answerOf}
+use Rattle.reader.specs.Shapes.{TakePromise}
 use Rattle.bridge.specs.Crossing.{flag, numbersOf, TakeCrossed, FreshCrossed}
 
 module _ (c : Call) (r : Taken) (area numbers out : List ℕ) (p : TakePromise c r area) where

@@ -3,26 +3,22 @@
 use mathlib.Core.Path.{_≡_, refl, sym, ap, _∙_, subst}
 use mathlib.Core.Bool.{Bool, true, false, _||_}
 use mathlib.Core.List.{List, [], _∷_}
-use Prim.Native.Nat.{ℕ, zero, suc, _+_, _*_, _-_, _≤_, _<_}
-use native.Mathlib.Nat.{zero-add, add-zero}
+use Prim.Native.Nat.{ℕ, suc, _+_, _*_, _-_, _≤_, _<_}
+use native.Mathlib.Nat.{add-zero}
 use native.Mathlib.Numerals.{add-one}
 use native.Mathlib.Omega.{arith}
-use lib.ListN.{length, drop, getD, set}
-use lib.Seq.{sets}
-use lib.Dec.{eqb, ltb}
+use lib.ListN.{length, drop, getD}
 use borrow.Author.Tests.{eq-eqb, ne-eqb, lt-ltb}
-use Rattle.labelling.specs.declared.Framing.{Framing}
 use Rattle.labelling.specs.declared.Groups.{Groups}
 use Rattle.labelling.specs.declared.Tally.{Tally}
-use Rattle.labelling.specs.declared.Word.{Word}
 use Rattle.labelling.specs.declared.Word.the-variants.{Voted}
 use Rattle.labelling.specs.Words.{SYNC, FILL, outside, byteVote}
 use Rattle.labelling.specs.Machine.{Now, wordEvent, byteStep}
 use Rattle.labelling.specs.Calls.{plus, feed}
 use Rattle.labelling.proofs.Ordered.{Ordered, ordered-byte, bytes-byte}
 use Rattle.labelling.proofs.Feeding.{loop-more}
-use Rattle.nominal.specs.Stretches.{Byte, Group, Nominal, ends, fill, group, NoneBegins, none, other, lastOr, Quiet, stray}
-use Rattle.nominal.specs.Effect.{PlainSteps, stays, byte, withWords, withQuiet, withPlaced, withHunted, afterQuiet, afterPlaced, afterHunted}
+use Rattle.nominal.specs.Stretches.{Byte, Group, Nominal, ends, fill, group, NoneBegins, other, Quiet, stray}
+use Rattle.nominal.specs.Effect.{PlainSteps, stays, byte, withWords, withQuiet, afterQuiet, afterPlaced, afterHunted}
 use Rattle.nominal.proofs.Joining.{nominal-far, quiet-far}
 
 -- ---- plain steps

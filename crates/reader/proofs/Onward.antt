@@ -3,7 +3,7 @@ use mathlib.Core.Path.{_≡_, refl, sym, ap, _∙_, subst}
 use mathlib.Core.Bool.{Bool, true, false, cond}
 use mathlib.Core.List.{List, [], _∷_}
 use mathlib.Core.Option.{Option, none, some}
-use Prim.Native.Nat.{ℕ, zero, suc, _+_, _*_, _-_, _≤_, _<_, _^_}
+use Prim.Native.Nat.{ℕ, suc, _+_, _*_, _-_, _≤_, _<_, _^_}
 use native.Mathlib.Omega.{arith}
 use lib.ListN.{length, drop, getD, set, length-set}
 use lib.Seq.{sets, getD-set-same}
@@ -14,19 +14,17 @@ use Rattle.labelling.specs.declared.Tally.{Tally}
 use Rattle.labelling.specs.declared.Word.{Word}
 use Rattle.labelling.specs.Words.{SYNC, byteVote}
 use Rattle.labelling.specs.MajorFrames.{value}
-use Rattle.labelling.specs.Machine.{ByteEvent, afterClosing, afterByte, Now, wordStep, wordGiven, byteEvent, byteStep}
+use Rattle.labelling.specs.Machine.{ByteEvent, afterByte, Now, wordStep, wordGiven, byteEvent, byteStep}
 use Rattle.labelling.specs.Order.{inOrder}
 use Rattle.labelling.specs.Calls.{plus, feed}
-use Rattle.labelling.proofs.Ordered.{Ordered, ordered, in-order, bytes-within, ordered-byte, bytes-byte}
+use Rattle.labelling.proofs.Ordered.{ordered, in-order, ordered-byte, bytes-byte}
 use Rattle.labelling.proofs.Feeding.{loop-more, loop-complete}
-use Rattle.nominal.specs.Stretches.{Byte, Nominal, NoneBegins, Stored, Hunted, Quiet, lastOr}
-use Rattle.nominal.specs.Effect.{PlainSteps, stays, byte, withWords, withQuiet, withPlaced, withHunted, afterQuiet, afterPlaced, afterHunted}
-use Rattle.nominal.proofs.Joining.{nominal-far, nominal-inside, quiet-far, quiet-inside}
+use Rattle.nominal.specs.Stretches.{Byte, Stored, Hunted, Quiet, lastOr}
+use Rattle.nominal.specs.Effect.{PlainSteps, stays, byte, withWords, withQuiet, withPlaced, withHunted, afterQuiet}
 use Rattle.nominal.proofs.Effect.{plain-join, plain-feed, plain-ordered, plain-bytes, group-opens, quiet-plain, placed-plain, hunted-plain}
 use Rattle.reader.specs.declared.run.Layers.{Layers}
-use Rattle.reader.specs.declared.run.Stepped.{Stepped}
 use Rattle.reader.specs.Onward.{goesOn, Onward, Words, opened}
-use Rattle.reader.specs.Shapes.{tallyOf, nowOf}
+use Rattle.reader.specs.Shapes.{tallyOf}
 
 -- ---- a byte
 

@@ -1,13 +1,12 @@
 -- A word, a byte, a piece and a call of the code, each as a law over plain values: what the parts of the code gave, joined, is what the
 -- machine gives. Assumes nothing.
-use mathlib.Core.Path.{_≡_, refl, sym, ap, _∙_, subst}
+use mathlib.Core.Path.{_≡_, refl, sym, ap, _∙_}
 use mathlib.Core.Bool.{Bool, true, false, cond, true≢false}
 use mathlib.Core.List.{List}
-use mathlib.Core.Option.{Option, none, some}
-use Prim.Native.Nat.{ℕ, zero, suc, _+_, _≤_, _<_, _^_}
+use mathlib.Core.Option.{none, some}
+use Prim.Native.Nat.{ℕ, zero, suc, _+_, _≤_, _<_}
 use native.Mathlib.Omega.{arith}
 use lib.Dec.{eqb}
-use lib.ListN.{length, drop, getD, set, length-set}
 use borrow.Author.Tests.{ne-eqb}
 use Rattle.labelling.specs.declared.FrameClass.{FrameClass}
 use Rattle.labelling.specs.declared.Framing.{Framing}
@@ -17,18 +16,16 @@ use Rattle.labelling.specs.declared.Tally.{Tally}
 use Rattle.labelling.specs.declared.Word.{Word}
 use Rattle.labelling.specs.Words.{byteVote}
 use Rattle.labelling.specs.MinorFrames.{isWord}
-use Rattle.labelling.specs.MajorFrames.{value}
-use Rattle.labelling.specs.Machine.{ByteEvent, closes, afterClosing, afterByte, WordEvent, hunts, locks, fills, closes-frame, syncWord, huntEvent, wordEvent, afterWord, frameAfter, FrameEvent, nothing, closedEvent, frameEvent, afterFrame, areaAfter, isComplete, Now, wordStep, wordGiven, byteEvent, byteStep}
+use Rattle.labelling.specs.Machine.{closes, afterClosing, afterByte, WordEvent, hunts, locks, fills, closes-frame, syncWord, huntEvent, wordEvent, afterWord, frameAfter, FrameEvent, nothing, closedEvent, frameEvent, afterFrame, areaAfter, isComplete, Now, wordStep, wordGiven, byteEvent, byteStep}
 use Rattle.labelling.specs.Order.{inOrder}
 use Rattle.labelling.specs.Calls.{Answer, feed, takeRefusal, answer}
-use Rattle.labelling.proofs.Ordered.{Ordered, ordered, in-order, bytes-within, Room, room, ordered-byte, bytes-byte}
+use Rattle.labelling.proofs.Ordered.{ordered, bytes-within, Room, room}
 use Rattle.labelling.proofs.Feeding.{Extent, feed-extent}
 use Rattle.labelling.proofs.CallLaws.{refused-answer, accepted-answer, answer-ordered}
 use Rattle.reader.specs.declared.major.Ended.{Ended}
 use Rattle.reader.specs.declared.minor.Closing.the-variants.{Nothing, Frame}
 use Rattle.reader.specs.declared.minor.Framed.{Framed}
 use Rattle.reader.specs.declared.run.Layers.{Layers}
-use Rattle.reader.specs.declared.run.Stepped.{Stepped}
 use Rattle.reader.specs.declared.Taken.{Taken}
 use Rattle.reader.specs.Room.{GroupsRoom, FramingRoom, RunsRoom}
 use Rattle.reader.specs.Shapes.{eventOf, PlacePromise, EndPromise, tallyOf, nowOf, callOf, answerOf, refusedWith, TakePromise}

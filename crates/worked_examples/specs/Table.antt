@@ -1,6 +1,6 @@
 -- The worked examples of paper 01 marked P ("Bench examples"): what is asked, and the answer as 01 prints it. Definitions only.
 use mathlib.Core.Bool.{true, false}
-use mathlib.Core.List.{List, [], _∷_, _++_, map}
+use mathlib.Core.List.{List, [], _∷_, _++_}
 use Prim.Native.Nat.{ℕ}
 use lib.IntN.{negsuc}
 use lib.Ieee.{Float, fin}

@@ -3,7 +3,6 @@ use native.Mathlib.Omega.{arith}
 use denote.Ref.{now}
 use Rattle.reader.specs.Shapes.{tallyOf}
 use Rattle.reader.proofs.Onward.{now-onward}
-use Rattle.reader.specs.Shapes.{nowOf}
 use borrow.Author.Needs.{needs}
 use Rattle.reader.proofs.run.one_byte.Statement.{statement}
 use Rattle.reader.proofs.run.one_byte.Tie as tie
