@@ -1,9 +1,9 @@
--- `codec_vectors::put_hex` is safe and ends: the index stays within the slice, and what is left of it falls. Assumes nothing.
+-- `vectors::print::put_bytes` is safe and ends: the index stays within the slice, and what is left of it falls. Assumes nothing.
 use Prim.Native.Nat.{_≤_, _-_}
 use native.Mathlib.Omega.{arith}
 use lib.ListN.{length}
-use Rattle.codec_vectors.proofs.put_hex.Statement.{statement}
-use Rattle.codec_vectors.proofs.put_hex.Tie as tie
+use Rattle.vectors.proofs.print.put_bytes.Statement.{statement}
+use Rattle.vectors.proofs.print.put_bytes.Tie as tie
 
 abbrev Inv-loop : tie.InvT-loop
 Inv-loop bytes i₀ i = i ≤ length bytes
@@ -32,8 +32,8 @@ loop-again c = omega arith
 returns : tie.Need-returns Inv-loop μ-loop
 returns c = tt
 
-pub put-hex-spec : {M : Type 1} → statement M
-put-hex-spec =
+pub put-bytes-spec : {M : Type 1} → statement M
+put-bytes-spec =
     tie.close
     (tie.spec
     Inv-loop

@@ -1,11 +1,11 @@
--- `codec_vectors::bits` is safe: a double that equals itself is no NaN, so its bits can be asked for. Assumes nothing.
-use mathlib.Core.Path.{_≡_, refl, subst}
-use mathlib.Core.Bool.{true, false, not}
+-- `vectors::print::bits` is safe: a double that equals itself is no NaN, so its bits can be asked for. Assumes nothing.
+use mathlib.Core.Path.{_≡_, subst}
+use mathlib.Core.Bool.{false, not}
 use lib.Dec.{T}
 use lib.Ieee.{Float, nan, inf, fin, isNan, ne}
 use borrow.Author.Needs.{needs}
-use Rattle.codec_vectors.proofs.bits.Statement.{statement}
-use Rattle.codec_vectors.proofs.bits.Tie as tie
+use Rattle.vectors.proofs.print.bits.Statement.{statement}
+use Rattle.vectors.proofs.print.bits.Tie as tie
 
 is-number : (v : Float) → ne v v ≡ false → T (not (isNan v))
 unfolding isNan ne
