@@ -3,8 +3,9 @@
 mod report;
 
 ghost use mathlib.Core.Path.{_≡_};
-ghost use Prim.Native.Nat.{_≤_, _<_};
+ghost use Prim.Native.Nat.{_≤_};
 ghost use lib.ListN.{length};
+use feeding::Stepped;
 use labelling::Tally;
 use reader::Taken;
 use vectors::filled;
@@ -92,45 +93,30 @@ fn fresh() -> Reading {
 }
 
 fn read_stream(stream: &[u8], piece: usize, area: &mut [u8]) -> Reading
-    requires { ⌜ 0 < piece ⌝ }
     requires { ⌜ length (now area) ≡ 16384 ⌝ }
 {
     let mut r = probe(fresh(), &mut *area);
     let mut at: usize = 0;
     while at < stream.len() {
-        let end = piece_end(at, piece, stream.len());
-        r = feed(r, &stream[at..end], &mut *area);
-        r = probe(r, &mut *area);
-        at = end;
+        let t = r.tally;
+        let s = feeding::step(t, stream, at, piece, &mut *area);
+        r = stepped(r, s, &mut *area);
+        at = s.at;
     }
     r
 }
 
-fn piece_end(at: usize, piece: usize, length: usize) -> usize
-    requires { ⌜ (at < length) × (0 < piece) ⌝ }
-    ensures { λ r. ⌜ (at < r) × (r ≤ length) ⌝ }
+// The reading after a step: a major frame that it completed is reported, and after each piece the reader is probed.
+fn stepped(r: Reading, s: Stepped, area: &mut [u8]) -> Reading
+    requires { ⌜ length (now area) ≡ 16384 ⌝ }
 {
-    if length - at <= piece {
-        return length;
+    let a = s.taken;
+    report::paid(a.complete, a.tally.groups.bytes, area);
+    let next = answered(r, a);
+    if s.at < s.end {
+        return next;
     }
-    at + piece
-}
-
-// The whole piece: a call stops at each major frame that is complete, and the next goes on from there.
-fn feed(r: Reading, piece: &[u8], area: &mut [u8]) -> Reading {
-    let mut next = r;
-    let mut at: usize = 0;
-    while at < piece.len() {
-        let t = next.tally;
-        let answer = reader::take(t, &piece[at..], area);
-        next = answered(next, answer);
-        if answer.refusal != 0 {
-            return next;
-        }
-        report::paid(answer.complete, answer.tally.groups.bytes, area);
-        at += answer.taken;
-    }
-    next
+    probe(next, area)
 }
 
 // Two calls that leave all as it is: a piece of no bytes is taken, and an area that is a byte too short is refused.

@@ -1,6 +1,6 @@
 // A reel that is written and read back: a lead-in, then whole major frames, each minor frame at a spacing of its own.
 ghost use mathlib.Core.Path.{_≡_};
-ghost use Prim.Native.Nat.{_*_, _≤_, _<_};
+ghost use Prim.Native.Nat.{_*_, _≤_};
 ghost use lib.ListN.{length};
 use crate::report;
 use labelling::Tally;
@@ -145,43 +145,17 @@ fn fresh() -> Reading {
     }
 }
 
-fn read_reel(reel: &[u8], frames: &[u8], piece: usize, area: &mut [u8]) -> Reading
-    requires { ⌜ 0 < piece ⌝ }
-{
+fn read_reel(reel: &[u8], frames: &[u8], piece: usize, area: &mut [u8]) -> Reading {
     let mut r = fresh();
     let mut at: usize = 0;
     while at < reel.len() {
-        let end = piece_end(at, piece, reel.len());
-        r = feed(r, &reel[at..end], frames, &mut *area);
-        at = end;
+        let t = r.tally;
+        let s = feeding::step(t, reel, at, piece, &mut *area);
+        let a = s.taken;
+        r = answered(r, a, frames, &*area);
+        at = s.at;
     }
     r
-}
-
-fn piece_end(at: usize, piece: usize, length: usize) -> usize
-    requires { ⌜ (at < length) × (0 < piece) ⌝ }
-    ensures { λ r. ⌜ (at < r) × (r ≤ length) ⌝ }
-{
-    if length - at <= piece {
-        return length;
-    }
-    at + piece
-}
-
-// The whole piece: a call stops at each major frame that is complete, and the next goes on from there.
-fn feed(r: Reading, piece: &[u8], frames: &[u8], area: &mut [u8]) -> Reading {
-    let mut next = r;
-    let mut at: usize = 0;
-    while at < piece.len() {
-        let t = next.tally;
-        let answer = reader::take(t, &piece[at..], area);
-        next = answered(next, answer, frames, area);
-        if answer.refusal != 0 {
-            return next;
-        }
-        at += answer.taken;
-    }
-    next
 }
 
 // The reading after a call: where a major frame is complete, the area is compared with the frames that were written.
