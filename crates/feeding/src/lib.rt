@@ -2,7 +2,7 @@
 ghost use mathlib.Core.Path.{_≡_};
 ghost use Prim.Native.Nat.{_≤_, _<_};
 ghost use lib.ListN.{length};
-ghost use Rattle.feeding.specs.Promise.{StepPromise};
+ghost use Rattle.feeding.specs.Promise.{pieceEnd, StepPromise};
 use labelling::Tally;
 use reader::Taken;
 
@@ -18,7 +18,7 @@ pub struct Stepped {
 // A call on the bytes of the stream from this place to the end of its piece. A piece begins at each multiple of this length; where that is
 // 0, the whole stream is one piece. Where the stream has no such place, the call has no bytes.
 pub fn step(t: Tally, stream: &[u8], at: usize, piece: usize, area: &mut [u8]) -> Stepped
-    ensures { λ r. ⌜ StepPromise t (now (stream .entry)) at (now (area .entry)) r (now (area .exit)) ⌝ }
+    ensures { λ r. ⌜ StepPromise t (now (stream .entry)) at piece (now (area .entry)) r (now (area .exit)) ⌝ }
 {
     let end = piece_end(at, piece, stream.len());
     let start = least(at, end);
@@ -30,15 +30,16 @@ pub fn step(t: Tally, stream: &[u8], at: usize, piece: usize, area: &mut [u8]) -
             at: stream.len(),
         };
     }
+    let next = start + answer.taken;
     Stepped {
         taken: answer,
         end: end,
-        at: start + answer.taken,
+        at: next,
     }
 }
 
 fn piece_end(at: usize, piece: usize, size: usize) -> usize
-    ensures { λ r. ⌜ (r ≤ size) × (at < size → at < r) ⌝ }
+    ensures { λ r. ⌜ (r ≤ size) × (at < size → at < r) × (at ≤ size → at ≤ r) × (r ≡ pieceEnd at piece size) ⌝ }
 {
     if size <= at {
         return size;
