@@ -29,7 +29,7 @@ abbrev pub rest : List ℕ → List ℕ
 rest [] = []
 rest (x ∷ xs) = xs
 
--- at how many places the second list has another byte than the first, or none
+-- at how many places of the first list the second has another byte, or none
 abbrev pub differ : List ℕ → List ℕ → ℕ
 differ [] ys = 0
 differ (x ∷ xs) ys = one (isOtherFirst x ys) + differ xs (rest ys)

@@ -22,6 +22,7 @@ pub fn number(bytes: &[u8]) -> u64
     n
 }
 
+// A number with one byte more at its end.
 fn join(n: u64, b: u8) -> u64
     ensures { λ r. ⌜ r ≡ joined n b ⌝ }
 {
@@ -47,6 +48,7 @@ pub fn mix(h: u64, n: u64) -> u64
     ((h % MODULUS) * 31 + n % MODULUS) % MODULUS
 }
 
+// A call asks only for the byte's index, where a cast in the loop would ask too that it fits.
 fn wide(b: u8) -> u64
     ensures { λ r. ⌜ r ≡ b ⌝ }
 {
@@ -85,7 +87,7 @@ pub fn sum(a: u64, b: u64) -> u64
     0xFFFF_FFFF_FFFF_FFFF
 }
 
-// At how many places the second slice has another byte than the first, or none.
+// At how many places of the first slice the second has another byte, or none.
 pub fn differing(a: &[u8], b: &[u8]) -> u64
     ensures { λ r. ⌜ r ≡ differ (now (a .entry)) (now (b .entry)) ⌝ }
 {
@@ -98,6 +100,7 @@ pub fn differing(a: &[u8], b: &[u8]) -> u64
     n
 }
 
+// Whether this place has another byte than b, or none.
 fn is_other(b: u8, bytes: &[u8], i: usize) -> bool
     ensures { λ r. ⌜ r ≡ isOtherFirst b (drop i (now (bytes .entry))) ⌝ }
 {
