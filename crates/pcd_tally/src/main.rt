@@ -98,7 +98,8 @@ fn feed(t: Tally, piece: &[u8], area: &mut [u8]) -> State {
     let mut tally = t;
     let mut at: usize = 0;
     while at < piece.len() {
-        let r = reader::take(tally, &piece[at..], area);
+        let s = feeding::step(tally, piece, at, piece.len(), area);
+        let r = s.taken;
         tally = r.tally;
         if r.refusal != 0 {
             return State {
@@ -106,7 +107,7 @@ fn feed(t: Tally, piece: &[u8], area: &mut [u8]) -> State {
                 input: Input::TooLong,
             };
         }
-        at += r.taken;
+        at = s.at;
     }
     State {
         tally: tally,

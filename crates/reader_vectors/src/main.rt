@@ -3,15 +3,15 @@
 mod report;
 
 ghost use mathlib.Core.Path.{_≡_};
-ghost use Prim.Native.Nat.{_+_, _≤_, _<_};
+ghost use Prim.Native.Nat.{_≤_};
 ghost use lib.ListN.{length};
+use feeding::Stepped;
 use labelling::Tally;
-use libc::STDIN_FILENO;
 use reader::Taken;
-
-const HEADER: usize = 36;
-
-const CUTS: usize = 8;
+use vectors::filled;
+use vectors::mix;
+use vectors::number;
+use vectors::sum;
 
 const ROOM: usize = 140_000;
 
@@ -27,8 +27,7 @@ pub(crate) struct Reading {
 }
 
 fn main() {
-    // More turns than any input of these has; it makes the loop end.
-    let mut left: u64 = 1_000_000;
+    let mut left = vectors::MOST_RECORDS;
     while left > 0 {
         if !turn() {
             return;
@@ -40,34 +39,39 @@ fn main() {
 // Reads a record and runs it; false at the end of the input.
 fn turn() -> bool {
     let mut header = [0u8; 36];
-    let got = io::read_full(STDIN_FILENO, &mut header);
-    if got != HEADER {
+    if !filled(&mut header) {
         return false;
     }
-    let n = number_at(&header, 0);
+    let n = number(&header[0..4]) as usize;
     if ROOM < n {
         return false;
     }
     let mut space = [0u8; 140000];
     let stream = &mut space[0..n];
-    let had = io::read_full(STDIN_FILENO, stream);
-    if had != n {
+    if !filled(&mut *stream) {
         return false;
     }
-    every_cut(&header, stream);
+    every_cut(stream, &header[4..36]);
     true
 }
 
-fn every_cut(header: &[u8; 36], stream: &[u8]) {
-    let mut i: usize = 0;
-    while i < CUTS {
-        one_cut(stream, number_at(header, 4 + 4 * i));
-        i += 1;
-    }
+// Reads the stream in pieces of each of these eight lengths.
+fn every_cut(stream: &[u8], lengths: &[u8])
+    requires { ⌜ 32 ≤ length (now lengths) ⌝ }
+{
+    one_cut(stream, &lengths[0..4]);
+    one_cut(stream, &lengths[4..8]);
+    one_cut(stream, &lengths[8..12]);
+    one_cut(stream, &lengths[12..16]);
+    one_cut(stream, &lengths[16..20]);
+    one_cut(stream, &lengths[20..24]);
+    one_cut(stream, &lengths[24..28]);
+    one_cut(stream, &lengths[28..32]);
 }
 
 // Reads the stream in pieces of this length; 0 is no length.
-fn one_cut(stream: &[u8], piece: usize) {
+fn one_cut(stream: &[u8], length: &[u8]) {
+    let piece = number(length) as usize;
     if piece == 0 {
         return;
     }
@@ -89,45 +93,30 @@ fn fresh() -> Reading {
 }
 
 fn read_stream(stream: &[u8], piece: usize, area: &mut [u8]) -> Reading
-    requires { ⌜ 0 < piece ⌝ }
     requires { ⌜ length (now area) ≡ 16384 ⌝ }
 {
     let mut r = probe(fresh(), &mut *area);
     let mut at: usize = 0;
     while at < stream.len() {
-        let end = piece_end(at, piece, stream.len());
-        r = feed(r, &stream[at..end], &mut *area);
-        r = probe(r, &mut *area);
-        at = end;
+        let t = r.tally;
+        let s = feeding::step(t, stream, at, piece, &mut *area);
+        r = stepped(r, s, &mut *area);
+        at = s.at;
     }
     r
 }
 
-fn piece_end(at: usize, piece: usize, length: usize) -> usize
-    requires { ⌜ (at < length) × (0 < piece) ⌝ }
-    ensures { λ r. ⌜ (at < r) × (r ≤ length) ⌝ }
+// The reading after a step: a major frame that it completed is reported, and after each piece the reader is probed.
+fn stepped(r: Reading, s: Stepped, area: &mut [u8]) -> Reading
+    requires { ⌜ length (now area) ≡ 16384 ⌝ }
 {
-    if length - at <= piece {
-        return length;
+    let a = s.taken;
+    report::paid(a.complete, a.tally.groups.bytes, area);
+    let next = answered(r, a);
+    if s.at < s.end {
+        return next;
     }
-    at + piece
-}
-
-// The whole piece: a call stops at each major frame that is complete, and the next goes on from there.
-fn feed(r: Reading, piece: &[u8], area: &mut [u8]) -> Reading {
-    let mut next = r;
-    let mut at: usize = 0;
-    while at < piece.len() {
-        let t = next.tally;
-        let answer = reader::take(t, &piece[at..], area);
-        next = answered(next, answer);
-        if answer.refusal != 0 {
-            return next;
-        }
-        report::paid(answer.complete, answer.tally.groups.bytes, area);
-        at += answer.taken;
-    }
-    next
+    probe(next, area)
 }
 
 // Two calls that leave all as it is: a piece of no bytes is taken, and an area that is a byte too short is refused.
@@ -148,7 +137,7 @@ fn answered(r: Reading, a: Taken) -> Reading {
     let t = a.tally;
     Reading {
         tally: t,
-        calls: one_more(r.calls),
+        calls: sum(r.calls, 1),
         answers: mixed(r.answers, a),
         refused: r.refused,
         otherwise: r.otherwise,
@@ -156,9 +145,9 @@ fn answered(r: Reading, a: Taken) -> Reading {
 }
 
 fn mixed(h: u64, a: Taken) -> u64 {
-    let b = report::mix(h, a.taken as u64);
-    let c = report::mix(b, report::bit(a.complete));
-    report::mix(c, a.refusal as u64)
+    let b = mix(h, a.taken as u64);
+    let c = mix(b, vectors::bit(a.complete));
+    mix(c, a.refusal as u64)
 }
 
 // The reading after a call that must be refused 2.
@@ -169,7 +158,7 @@ fn refused(r: Reading, a: Taken) -> Reading {
             tally: t,
             calls: r.calls,
             answers: r.answers,
-            refused: one_more(r.refused),
+            refused: sum(r.refused, 1),
             otherwise: r.otherwise,
         };
     }
@@ -178,7 +167,7 @@ fn refused(r: Reading, a: Taken) -> Reading {
         calls: r.calls,
         answers: r.answers,
         refused: r.refused,
-        otherwise: one_more(r.otherwise),
+        otherwise: sum(r.otherwise, 1),
     }
 }
 
@@ -190,23 +179,4 @@ fn is_refused(a: Taken) -> bool {
         return false;
     }
     !a.complete
-}
-
-// A count that stops at 2^32.
-fn one_more(n: u64) -> u64 {
-    if n < 0x1_0000_0000 {
-        return n + 1;
-    }
-    n
-}
-
-// Four bytes, the first one highest.
-fn number_at(header: &[u8; 36], at: usize) -> usize
-    requires { ⌜ at + 4 ≤ 36 ⌝ }
-{
-    four(header[at], header[at + 1], header[at + 2], header[at + 3])
-}
-
-fn four(a: u8, b: u8, c: u8, d: u8) -> usize {
-    (a as usize) * 0x100_0000 + (b as usize) * 0x1_0000 + (c as usize) * 0x100 + (d as usize)
 }

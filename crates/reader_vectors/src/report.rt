@@ -1,21 +1,10 @@
 // What is written of a stream.
 use crate::Reading;
 use labelling::Tally;
-use libc::STDOUT_FILENO;
-
-const MODULUS: u64 = 4_294_967_291;
-
-// One number more in a checksum.
-pub(crate) fn mix(h: u64, n: u64) -> u64 {
-    ((h % MODULUS) * 31 + n % MODULUS) % MODULUS
-}
-
-pub(crate) fn bit(b: bool) -> u64 {
-    if b {
-        return 1;
-    }
-    0
-}
+use vectors::bit;
+use vectors::checksum;
+use vectors::field;
+use vectors::put;
 
 pub(crate) fn heading(length: usize, piece: usize) {
     field(b"stream of ", length as u64);
@@ -85,27 +74,4 @@ fn kept(t: Tally) {
 fn frame_checksum(t: Tally) -> u64 {
     let frame = t.frame;
     checksum(&frame)
-}
-
-fn checksum(bytes: &[u8]) -> u64 {
-    let mut h: u64 = 0;
-    let mut i: usize = 0;
-    while i < bytes.len() {
-        h = mix(h, wide(bytes[i]));
-        i += 1;
-    }
-    h
-}
-
-fn wide(b: u8) -> u64 {
-    b as u64
-}
-
-fn field(name: &[u8], n: u64) {
-    put(name);
-    io::print_decimal(STDOUT_FILENO, n);
-}
-
-fn put(text: &[u8]) {
-    io::write_all(STDOUT_FILENO, text);
 }

@@ -1,9 +1,5 @@
 // Runs word 72's entries on the records of standard input and writes a line for each answer: what tests/word72_vectors.py makes, with
 // the answers that it worked out by other means.
-ghost use Prim.Native.Nat.{_≤_, _+_};
-ghost use lib.ListN.{length};
-use libc::STDIN_FILENO;
-use libc::STDOUT_FILENO;
 use subcom::ColumnKind;
 use subcom::Description;
 use subcom::EightFlags;
@@ -11,7 +7,13 @@ use subcom::Form;
 use subcom::Item;
 use subcom::ItemCount;
 use subcom::Reading;
-use time_code::TimeCode;
+use vectors::field;
+use vectors::filled;
+use vectors::number;
+use vectors::put;
+use vectors::put_bytes;
+use vectors::put_number;
+use vectors::put_refusal;
 
 // A record: the operation, seven bytes of nothing, and three numbers of eight bytes.
 const RECORD: usize = 32;
@@ -26,8 +28,7 @@ fn main() {
     let mut column_space = [0u8; 160];
     let area: &mut [u8] = &mut area_space;
     let column: &mut [u8] = &mut column_space;
-    // More turns than any input of these has; it makes the loop end.
-    let mut left: u64 = 1_000_000;
+    let mut left = vectors::MOST_RECORDS;
     while left > 0 {
         if !turn(&mut *area, &mut *column) {
             return;
@@ -39,8 +40,7 @@ fn main() {
 // Reads a record and runs it; false at the end of the input.
 fn turn(area: &mut [u8], column: &mut [u8]) -> bool {
     let mut record = [0u8; 32];
-    let got = io::read_full(STDIN_FILENO, &mut record);
-    if got == RECORD {
+    if filled(&mut record) {
         return run(&record, area, column);
     }
     false
@@ -51,9 +51,9 @@ fn run(record: &[u8], area: &mut [u8], column: &mut [u8]) -> bool {
         return false;
     }
     let operation = record[0];
-    let a = number_at(record, 8);
-    let b = number_at(record, 16);
-    let c = number_at(record, 24);
+    let a = number(&record[8..16]);
+    let b = number(&record[16..24]);
+    let c = number(&record[24..32]);
     match operation {
         1 => return load(area, AREA),
         2 => return load(column, COLUMN),
@@ -77,9 +77,7 @@ fn ask_one(operation: u8, column: &[u8], a: u64, b: u64, c: u64) {
 // Fills the first n bytes of a buffer from the input.
 fn load(buffer: &mut [u8], n: usize) -> bool {
     if n <= buffer.len() {
-        let part = &mut buffer[0..n];
-        let got = io::read_full(STDIN_FILENO, part);
-        return got == n;
+        return filled(&mut buffer[0..n]);
     }
     false
 }
@@ -111,11 +109,10 @@ fn gather(area: &[u8], column: &mut [u8], n: u64) -> bool {
 fn kind(column: &[u8]) {
     match subcom::kind(column) {
         ColumnKind::Kind(k) => {
-            put(b"kind ");
-            put_number(k);
+            field(b"kind ", k);
             put(b"\n");
         }
-        ColumnKind::Refused(number) => refused(number),
+        ColumnKind::Refused(r) => put_refusal(r),
     }
 }
 
@@ -123,7 +120,7 @@ fn kind(column: &[u8]) {
 fn list(column: &[u8], kind: u64) {
     match subcom::item_count(kind) {
         ItemCount::Items(n) => list_items(column, kind, n),
-        ItemCount::Refused(number) => refused(number),
+        ItemCount::Refused(r) => put_refusal(r),
     }
 }
 
@@ -137,11 +134,10 @@ fn list_items(column: &[u8], kind: u64, n: u64) {
 
 fn list_item(column: &[u8], kind: u64, item: u64) {
     put_number(kind);
-    put(b" ");
-    put_number(item);
+    field(b" ", item);
     match subcom::describe(kind, item) {
         Description::Found(i) => put_item(i),
-        Description::Refused(number) => put_number(number as u64),
+        Description::Refused(r) => put_number(r as u64),
     }
     put(b" [");
     put_bytes(subcom::part(column, kind, item));
@@ -162,10 +158,8 @@ fn put_item(i: Item) {
     put(b" ");
     let form = i.form;
     put_form(form);
-    put(b" ");
-    put_number(i.first as u64);
-    put(b" ");
-    put_number(i.length as u64);
+    field(b" ", i.first as u64);
+    field(b" ", i.length as u64);
 }
 
 fn put_form(form: Form) {
@@ -182,19 +176,14 @@ fn put_form(form: Form) {
 fn put_reading(r: Reading) {
     match r {
         Reading::Count(n) => {
-            put(b"count ");
-            put_number(n);
+            field(b"count ", n);
             put(b"\n");
         }
         Reading::Flags(f) => put_flags(f),
-        Reading::Number(x) => {
-            put(b"number ");
-            io::print_hex(STDOUT_FILENO, bits(x), 16);
-            put(b"\n");
-        }
-        Reading::Time(t) => put_time(t),
+        Reading::Number(x) => vectors::put_double(x),
+        Reading::Time(t) => vectors::put_time(t.spacecraft, t.instant),
         Reading::Fill => put(b"fill\n"),
-        Reading::Refused(number) => refused(number),
+        Reading::Refused(r) => put_refusal(r),
     }
 }
 
@@ -212,76 +201,5 @@ fn put_flags(f: EightFlags) {
 }
 
 fn put_flag(flag: bool) {
-    if flag {
-        put(b"1");
-    } else {
-        put(b"0");
-    }
-}
-
-fn put_time(t: TimeCode) {
-    put(b"time ");
-    put_number(t.spacecraft);
-    put(b" ");
-    put_number(t.instant);
-    put(b"\n");
-}
-
-// The bits of a double; all ones for a NaN, which no reading gives.
-fn bits(x: f64) -> u64 {
-    if x != x {
-        return 0xFFFF_FFFF_FFFF_FFFF;
-    }
-    f64::to_bits(x)
-}
-
-fn refused(number: u8) {
-    put(b"refused ");
-    put_number(number as u64);
-    put(b"\n");
-}
-
-fn put(text: &[u8]) {
-    io::write_all(STDOUT_FILENO, text);
-}
-
-fn put_number(n: u64) {
-    io::print_decimal(STDOUT_FILENO, n);
-}
-
-fn put_bytes(bytes: &[u8]) {
-    let mut i = 0;
-    while i < bytes.len() {
-        put_byte(bytes[i]);
-        i += 1;
-    }
-}
-
-fn put_byte(b: u8) {
-    io::print_hex(STDOUT_FILENO, b as u64, 2);
-}
-
-fn number_at(s: &[u8], at: usize) -> u64
-    requires { ⌜ at + 8 ≤ length (now s) ⌝ }
-    requires { ⌜ at ≤ 1000 ⌝ }
-{
-    eight(
-        s[at],
-        s[at + 1],
-        s[at + 2],
-        s[at + 3],
-        s[at + 4],
-        s[at + 5],
-        s[at + 6],
-        s[at + 7],
-    )
-}
-
-fn eight(b0: u8, b1: u8, b2: u8, b3: u8, b4: u8, b5: u8, b6: u8, b7: u8) -> u64 {
-    let high = (b0 as u64) * 0x100_0000
-        + (b1 as u64) * 0x1_0000
-        + (b2 as u64) * 0x100
-        + (b3 as u64);
-    let low = (b4 as u64) * 0x100_0000 + (b5 as u64) * 0x1_0000 + (b6 as u64) * 0x100 + (b7 as u64);
-    high * 0x1_0000_0000 + low
+    put_number(vectors::bit(flag));
 }

@@ -7,6 +7,7 @@ mod show;
 
 use labelling::Tally;
 use show::call;
+use vectors::put;
 
 const LIMIT: u64 = 1 << 40;
 
@@ -59,7 +60,7 @@ fn main() {
 }
 
 fn limit() {
-    show::put(b"The limit of 2^40 bytes\n");
+    put(b"The limit of 2^40 bytes\n");
     let mut t = reader::fresh();
     t.groups.bytes = THREE_LESS;
     t.groups.fill = THREE_LESS;
@@ -107,7 +108,7 @@ fn last_byte() {
 
 // A tally that is not in order.
 fn order() {
-    show::put(b"The order of the refusals\n");
+    put(b"The order of the refusals\n");
     let mut t = reader::fresh();
     t.groups.bytes = LIMIT;
     t.groups.fill = LIMIT;
@@ -137,7 +138,7 @@ fn asked(name: &[u8], t: Tally) {
 }
 
 fn limits_of_counts() {
-    show::put(b"Each count is at most 2^40\n");
+    put(b"Each count is at most 2^40\n");
     let mut t = reader::fresh();
     t.groups.bytes = LIMIT;
     t.groups.fill = LIMIT;
@@ -209,7 +210,7 @@ fn wrapping_frames() {
 }
 
 fn bytes_sum() {
-    show::put(b"bytes = fill + stray + 4 * voted + 4 * split + open\n");
+    put(b"bytes = fill + stray + 4 * voted + 4 * split + open\n");
     let mut t = reader::fresh();
     t.groups.fill = 10;
     t.groups.stray = 20;
@@ -226,7 +227,7 @@ fn bytes_sum() {
 }
 
 fn words_sum() {
-    show::put(b"voted + split = hunted + 128 * (good + damaged + unsynced) + placed\n");
+    put(b"voted + split = hunted + 128 * (good + damaged + unsynced) + placed\n");
     let mut t = reader::fresh();
     t.groups.bytes = 1592;
     t.groups.voted = 300;
@@ -246,7 +247,7 @@ fn words_sum() {
 }
 
 fn frames_sum() {
-    show::put(b"good = 128 * majors + broken + loose + building\n");
+    put(b"good = 128 * majors + broken + loose + building\n");
     let mut t = reader::fresh();
     t.groups.bytes = 68620;
     t.groups.voted = 17155;
@@ -265,7 +266,7 @@ fn frames_sum() {
 }
 
 fn open() {
-    show::put(b"open is at most 3\n");
+    put(b"open is at most 3\n");
     let mut t = reader::fresh();
     t.groups.bytes = 3;
     t.groups.open = 3;
@@ -276,7 +277,7 @@ fn open() {
 }
 
 fn placed() {
-    show::put(b"placed is at most 127\n");
+    put(b"placed is at most 127\n");
     let mut t = reader::fresh();
     t.groups.bytes = 520;
     t.groups.voted = 130;
@@ -291,7 +292,7 @@ fn placed() {
 }
 
 fn building() {
-    show::put(b"building is at most 127\n");
+    put(b"building is at most 127\n");
     let mut t = reader::fresh();
     t.groups.bytes = 65036;
     t.groups.voted = 16259;
@@ -308,7 +309,7 @@ fn building() {
 }
 
 fn matched() {
-    show::put(b"the match is at most 2, and 0 out of hunting\n");
+    put(b"the match is at most 2, and 0 out of hunting\n");
     let mut t = reader::fresh();
     t.groups.bytes = 12;
     t.groups.voted = 3;
@@ -325,7 +326,7 @@ fn matched() {
 }
 
 fn hunting() {
-    show::put(b"placed and building are 0 while hunting\n");
+    put(b"placed and building are 0 while hunting\n");
     let mut t = reader::fresh();
     t.groups.bytes = 4;
     t.groups.voted = 1;
@@ -347,7 +348,7 @@ fn hunting() {
 }
 
 fn hole() {
-    show::put(b"no hole is marked when placed is 0\n");
+    put(b"no hole is marked when placed is 0\n");
     let mut t = reader::fresh();
     t.framing.hunting = false;
     t.framing.erasure = true;
@@ -361,7 +362,7 @@ fn hole() {
 }
 
 fn free() {
-    show::put(b"nothing is asked of the copies and the frame\n");
+    put(b"nothing is asked of the copies and the frame\n");
     let mut t = reader::fresh();
     t.groups.first = 0xFF;
     t.groups.second = 0xFE;

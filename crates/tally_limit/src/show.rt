@@ -4,7 +4,9 @@ use labelling::Framing;
 use labelling::Groups;
 use labelling::Runs;
 use labelling::Tally;
-use libc::STDOUT_FILENO;
+use vectors::bit;
+use vectors::field;
+use vectors::put;
 
 // What the area holds before a call.
 const BEFORE: u8 = 0xA5;
@@ -17,7 +19,7 @@ pub(crate) fn call(name: &[u8], t: Tally, bytes: usize, room: usize) -> Tally
     let mut space = [0xA5u8; 16385];
     let area = &mut space[0..room];
     let answer = reader::take(t, &fill[0..bytes], &mut *area);
-    let changed = changes(area);
+    let changed = vectors::others(area, BEFORE);
     let next = answer.tally;
     put(name);
     field(b": refusal ", answer.refusal as u64);
@@ -28,32 +30,6 @@ pub(crate) fn call(name: &[u8], t: Tally, bytes: usize, room: usize) -> Tally
     field(b" area changed ", changed);
     put(b"\n");
     next
-}
-
-// How many bytes are not what they were before the call.
-fn changes(area: &[u8]) -> u64 {
-    let mut n: u64 = 0;
-    let mut i: usize = 0;
-    while i < area.len() {
-        n = one_more_if(area[i] != BEFORE, n);
-        i += 1;
-    }
-    n
-}
-
-fn one_more_if(b: bool, n: u64) -> u64 {
-    if b {
-        return one_more(n);
-    }
-    n
-}
-
-// A count that stops at 2^32.
-fn one_more(n: u64) -> u64 {
-    if n < 0x1_0000_0000 {
-        return n + 1;
-    }
-    n
 }
 
 fn same(a: Tally, b: Tally) -> bool {
@@ -98,28 +74,5 @@ fn same_runs(a: Runs, b: Runs) -> bool {
 }
 
 fn same_frame(a: &[u8; 128], b: &[u8; 128]) -> bool {
-    let mut i: usize = 0;
-    while i < 128 {
-        if a[i] != b[i] {
-            return false;
-        }
-        i += 1;
-    }
-    true
-}
-
-fn bit(b: bool) -> u64 {
-    if b {
-        return 1;
-    }
-    0
-}
-
-fn field(name: &[u8], n: u64) {
-    put(name);
-    io::print_decimal(STDOUT_FILENO, n);
-}
-
-pub(crate) fn put(text: &[u8]) {
-    io::write_all(STDOUT_FILENO, text);
+    vectors::differing(a, b) == 0
 }

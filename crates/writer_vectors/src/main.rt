@@ -4,9 +4,7 @@ mod reel;
 mod report;
 mod single;
 
-use libc::STDIN_FILENO;
-
-const HEADER: usize = 12;
+use vectors::number;
 
 const LEAD_IN: u8 = 0;
 
@@ -23,8 +21,7 @@ struct Header {
 }
 
 fn main() {
-    // More turns than any input of these has; it makes the loop end.
-    let mut left: u64 = 1_000_000;
+    let mut left = vectors::MOST_RECORDS;
     while left > 0 {
         if !turn() {
             return;
@@ -36,11 +33,15 @@ fn main() {
 // Reads a record and runs it; false at the end of the input.
 fn turn() -> bool {
     let mut bytes = [0u8; 12];
-    let got = io::read_full(STDIN_FILENO, &mut bytes);
-    if got != HEADER {
+    if !vectors::filled(&mut bytes) {
         return false;
     }
-    let h = header_of(&bytes);
+    let h = Header {
+        kind: bytes[0],
+        count: number(&bytes[1..2]) as usize,
+        room: number(&bytes[2..4]) as usize,
+        spacing: number(&bytes[4..12]),
+    };
     if h.kind == LEAD_IN {
         return single::lead_in(h.spacing, h.room);
     }
@@ -48,25 +49,4 @@ fn turn() -> bool {
         return single::minor_frame(h.spacing, h.count, h.room);
     }
     reel::written_and_read(h.spacing, h.count)
-}
-
-fn header_of(bytes: &[u8; 12]) -> Header {
-    Header {
-        kind: bytes[0],
-        count: four(0, 0, 0, bytes[1]) as usize,
-        room: four(0, 0, bytes[2], bytes[3]) as usize,
-        spacing: joined(
-            four(bytes[4], bytes[5], bytes[6], bytes[7]),
-            four(bytes[8], bytes[9], bytes[10], bytes[11]),
-        ),
-    }
-}
-
-fn joined(high: u32, low: u32) -> u64 {
-    (high as u64) * 0x1_0000_0000 + (low as u64)
-}
-
-// Four bytes, the first one highest.
-fn four(a: u8, b: u8, c: u8, d: u8) -> u32 {
-    (a as u32) * 0x100_0000 + (b as u32) * 0x1_0000 + (c as u32) * 0x100 + (d as u32)
 }

@@ -1,11 +1,12 @@
 // A reel that is written and read back: a lead-in, then whole major frames, each minor frame at a spacing of its own.
 ghost use mathlib.Core.Path.{_≡_};
-ghost use Prim.Native.Nat.{_*_, _≤_, _<_};
+ghost use Prim.Native.Nat.{_*_, _≤_};
 ghost use lib.ListN.{length};
 use crate::report;
 use labelling::Tally;
-use libc::STDIN_FILENO;
 use reader::Taken;
+use vectors::filled;
+use vectors::sum;
 
 const MOST_MAJORS: usize = 4;
 
@@ -27,14 +28,12 @@ pub(crate) fn written_and_read(lead_spacing: u64, majors: usize) -> bool {
     }
     let mut spacing_space = [0u8; 512];
     let spacings = &mut spacing_space[0..128 * majors];
-    let got = io::read_full(STDIN_FILENO, &mut *spacings);
-    if got != 128 * majors {
+    if !filled(&mut *spacings) {
         return false;
     }
     let mut frame_space = [0u8; 65536];
     let frames = &mut frame_space[0..AREA * majors];
-    let had = io::read_full(STDIN_FILENO, &mut *frames);
-    if had != AREA * majors {
+    if !filled(&mut *frames) {
         return false;
     }
     run(lead_spacing, spacings, frames);
@@ -146,43 +145,17 @@ fn fresh() -> Reading {
     }
 }
 
-fn read_reel(reel: &[u8], frames: &[u8], piece: usize, area: &mut [u8]) -> Reading
-    requires { ⌜ 0 < piece ⌝ }
-{
+fn read_reel(reel: &[u8], frames: &[u8], piece: usize, area: &mut [u8]) -> Reading {
     let mut r = fresh();
     let mut at: usize = 0;
     while at < reel.len() {
-        let end = piece_end(at, piece, reel.len());
-        r = feed(r, &reel[at..end], frames, &mut *area);
-        at = end;
+        let t = r.tally;
+        let s = feeding::step(t, reel, at, piece, &mut *area);
+        let a = s.taken;
+        r = answered(r, a, frames, &*area);
+        at = s.at;
     }
     r
-}
-
-fn piece_end(at: usize, piece: usize, length: usize) -> usize
-    requires { ⌜ (at < length) × (0 < piece) ⌝ }
-    ensures { λ r. ⌜ (at < r) × (r ≤ length) ⌝ }
-{
-    if length - at <= piece {
-        return length;
-    }
-    at + piece
-}
-
-// The whole piece: a call stops at each major frame that is complete, and the next goes on from there.
-fn feed(r: Reading, piece: &[u8], frames: &[u8], area: &mut [u8]) -> Reading {
-    let mut next = r;
-    let mut at: usize = 0;
-    while at < piece.len() {
-        let t = next.tally;
-        let answer = reader::take(t, &piece[at..], area);
-        next = answered(next, answer, frames, area);
-        if answer.refusal != 0 {
-            return next;
-        }
-        at += answer.taken;
-    }
-    next
 }
 
 // The reading after a call: where a major frame is complete, the area is compared with the frames that were written.
@@ -196,12 +169,12 @@ fn answered(r: Reading, a: Taken, frames: &[u8], area: &[u8]) -> Reading {
             differ: r.differ,
         };
     }
-    let d = differences(area, frames, r.paid);
+    let d = vectors::differing(area, from(frames, r.paid));
     Reading {
         tally: t,
         paid: next_of(r.paid),
-        compared: report::sum(r.compared, area.len() as u64),
-        differ: report::sum(r.differ, d),
+        compared: sum(r.compared, area.len() as u64),
+        differ: sum(r.differ, d),
     }
 }
 
@@ -213,29 +186,14 @@ fn next_of(paid: usize) -> usize {
     MOST_MAJORS + 1
 }
 
-// How many bytes of the area are not those of this major frame. Where it was never written, all of them.
-fn differences(area: &[u8], frames: &[u8], major: usize) -> u64 {
+// The major frames that were written, from this one on; none where it never was.
+fn from(frames: &[u8], major: usize) -> &[u8] {
     if MOST_MAJORS < major {
-        return area.len() as u64;
+        return &frames[0..0];
     }
     let start = AREA * major;
-    let mut n: u64 = 0;
-    let mut i: usize = 0;
-    while i < area.len() {
-        n = report::one_more_if(is_other(area[i], frames, start, i), n);
-        i += 1;
-    }
-    n
-}
-
-fn is_other(b: u8, frames: &[u8], start: usize, i: usize) -> bool
-    requires { ⌜ start ≤ 65536 ⌝ }
-{
     if frames.len() < start {
-        return true;
+        return &frames[0..0];
     }
-    if frames.len() - start <= i {
-        return true;
-    }
-    frames[start + i] != b
+    &frames[start..]
 }

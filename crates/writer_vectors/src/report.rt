@@ -3,9 +3,9 @@ ghost use Prim.Native.Nat.{_≤_};
 ghost use lib.ListN.{length};
 use crate::reel::Reading;
 use labelling::Tally;
-use libc::STDOUT_FILENO;
-
-const MODULUS: u64 = 4_294_967_291;
+use vectors::checksum;
+use vectors::field;
+use vectors::put;
 
 // The longest output that is shown byte by byte.
 const SHORT: usize = 28;
@@ -32,7 +32,7 @@ pub(crate) fn minor_frame(spacing: u64, frame: &[u8], room: usize) {
 // A byte that is not there is shown as two dashes.
 fn byte_at(bytes: &[u8], at: usize) {
     if at < bytes.len() {
-        hex(bytes[at]);
+        vectors::put_byte(bytes[at]);
         return;
     }
     put(b"--");
@@ -52,17 +52,9 @@ pub(crate) fn short_output(space: &[u8], room: usize)
 {
     if room <= SHORT {
         put(b" bytes ");
-        every_byte(&space[0..room]);
+        vectors::put_bytes(&space[0..room]);
     }
     output(space, room);
-}
-
-fn every_byte(bytes: &[u8]) {
-    let mut i: usize = 0;
-    while i < bytes.len() {
-        hex(bytes[i]);
-        i += 1;
-    }
 }
 
 pub(crate) fn written(majors: usize, reel: &[u8]) {
@@ -107,51 +99,4 @@ fn counts(t: Tally) {
     field(b" bytes ", t.groups.bytes);
     field(b" fill ", t.groups.fill);
     field(b" voted ", t.groups.voted);
-}
-
-pub(crate) fn checksum(bytes: &[u8]) -> u64 {
-    let mut h: u64 = 0;
-    let mut i: usize = 0;
-    while i < bytes.len() {
-        h = mix(h, wide(bytes[i]));
-        i += 1;
-    }
-    h
-}
-
-// One number more in a checksum.
-fn mix(h: u64, n: u64) -> u64 {
-    ((h % MODULUS) * 31 + n % MODULUS) % MODULUS
-}
-
-fn wide(b: u8) -> u64 {
-    b as u64
-}
-
-pub(crate) fn one_more_if(b: bool, n: u64) -> u64 {
-    if b {
-        return sum(n, 1);
-    }
-    n
-}
-
-// A sum that stops at the largest number.
-pub(crate) fn sum(a: u64, b: u64) -> u64 {
-    if b <= 0xFFFF_FFFF_FFFF_FFFF - a {
-        return a + b;
-    }
-    0xFFFF_FFFF_FFFF_FFFF
-}
-
-fn hex(b: u8) {
-    io::print_hex(STDOUT_FILENO, wide(b), 2);
-}
-
-pub(crate) fn field(name: &[u8], n: u64) {
-    put(name);
-    io::print_decimal(STDOUT_FILENO, n);
-}
-
-pub(crate) fn put(text: &[u8]) {
-    io::write_all(STDOUT_FILENO, text);
 }

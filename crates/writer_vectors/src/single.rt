@@ -1,7 +1,8 @@
 // One call of the writer, and the line about it.
 ghost use Prim.Native.Nat.{_≤_};
 use crate::report;
-use libc::STDIN_FILENO;
+use vectors::field;
+use vectors::others;
 
 // More than any output that a record asks for, 128 × 66 bytes at most, so that a write past its end would show.
 const SPACE: usize = 8576;
@@ -17,9 +18,9 @@ pub(crate) fn lead_in(spacing: u64, room: usize) -> bool {
     let mut array = [0xA5u8; 8576];
     let space: &mut [u8] = &mut array;
     let answer = writer::write_lead_in(spacing, &mut space[0..room]);
-    report::field(b"lead-in spacing ", spacing);
-    report::field(b" output ", room as u64);
-    report::answered(answer, changes(space));
+    field(b"lead-in spacing ", spacing);
+    field(b" output ", room as u64);
+    report::answered(answer, others(space, BEFORE));
     report::short_output(space, room);
     true
 }
@@ -34,8 +35,7 @@ pub(crate) fn minor_frame(spacing: u64, length: usize, room: usize) -> bool {
     }
     let mut source = [0u8; 256];
     let frame = &mut source[0..length];
-    let got = io::read_full(STDIN_FILENO, &mut *frame);
-    if got != length {
+    if !vectors::filled(&mut *frame) {
         return false;
     }
     report::minor_frame(spacing, frame, room);
@@ -49,17 +49,6 @@ fn one_minor_frame(spacing: u64, frame: &[u8], room: usize)
     let mut array = [0xA5u8; 8576];
     let space: &mut [u8] = &mut array;
     let answer = writer::write_minor_frame(spacing, frame, &mut space[0..room]);
-    report::answered(answer, changes(space));
+    report::answered(answer, others(space, BEFORE));
     report::output(space, room);
-}
-
-// How many bytes are not what they were before the call.
-fn changes(space: &[u8]) -> u64 {
-    let mut n: u64 = 0;
-    let mut i: usize = 0;
-    while i < space.len() {
-        n = report::one_more_if(space[i] != BEFORE, n);
-        i += 1;
-    }
-    n
 }

@@ -1,14 +1,13 @@
--- `reader_vectors::read_stream` is safe and ends: a piece ends within the stream and has a byte, and no call changes the area's length.
--- Assumes nothing.
+-- `reader_vectors::read_stream` is safe and ends: each step goes onward, and no call changes the area's length. Assumes nothing.
 use mathlib.Core.Path.{_≡_, sym, _∙_}
-use Prim.Native.Nat.{_≤_, _-_}
+use Prim.Native.Nat.{_-_}
 use native.Mathlib.Omega.{arith}
 use lib.ListN.{length}
 use Rattle.reader_vectors.proofs.read_stream.Statement.{statement}
 use Rattle.reader_vectors.proofs.read_stream.Tie as tie
 
 abbrev Inv-loop : tie.InvT-loop
-Inv-loop stream piece area₀ r₀ at₀ area r at = (at ≤ length stream) × (length area ≡ 16384)
+Inv-loop stream piece area₀ r₀ at₀ area r at = length area ≡ 16384
 
 abbrev μ-loop : tie.MeasureT-loop
 μ-loop stream piece area₀ r₀ at₀ area r at = length stream - at
@@ -17,37 +16,29 @@ fresh-requires : tie.Need-fresh-requires Inv-loop μ-loop
 fresh-requires c κs = tt
 
 probe-requires : tie.Need-probe-requires Inv-loop μ-loop
-probe-requires c κs = c .before .before .before .before .pre .1
+probe-requires c κs = c .before .before .before .before .pre
 
 loop-holds : tie.Need-loop-holds Inv-loop μ-loop
-loop-holds c = (omega arith, c .before .before .probe .kept .1 .0 ∙ c .before .before .before .before .before .before .before .pre .1)
+loop-holds c = c .before .before .probe .kept .1 .0 ∙ c .before .before .before .before .before .before .before .pre
 
-piece-end-requires : tie.Need-piece-end-requires Inv-loop μ-loop
-piece-end-requires c κs = (c .loop-test .taken, c .before .before .before .before .before .before .before .before .before .pre .0)
+step-requires : tie.Need-step-requires Inv-loop μ-loop
+step-requires c κs = tt
 
-sub-feed : tie.Need-sub-feed Inv-loop μ-loop
-sub-feed c = omega arith
-
-part-feed-start : tie.Need-part-feed-start Inv-loop μ-loop
-part-feed-start c = omega arith
-
-part-feed-end : tie.Need-part-feed-end Inv-loop μ-loop
-part-feed-end c = omega arith
-
-feed-requires : tie.Need-feed-requires Inv-loop μ-loop
-feed-requires c κs = tt
-
-probe-requires-2 : tie.Need-probe-requires-2 Inv-loop μ-loop
-probe-requires-2 c κs = c .before .before .before .feed .kept .1 .1 .0 ∙ c .before .before .before .before .before .before .before .before .loop .inv .1
+stepped-requires : tie.Need-stepped-requires Inv-loop μ-loop
+stepped-requires c κs = c .before .before .before .step .kept .1 .1 .1 .1 .0 ∙ c .before .before .before .before .before .before .before .loop .inv
 
 loop-less : tie.Need-loop-less Inv-loop μ-loop
-loop-less c = omega arith
+loop-less c =
+    let w = c .before .before .before .before .before .before in
+    omega (arith, w .step .ensures .onward (w .before .before .before .loop-test .taken))
 
 loop-again : tie.Need-loop-again Inv-loop μ-loop
-loop-again c = (omega arith, c .before .before .probe2 .kept .1 .0 ∙ c .before .before .before .before .before .before .feed .kept .1 .1 .0 ∙ c .before .before .before .before .before .before .before .before .before .before .before .loop .inv .1)
+loop-again c =
+    let w = c .before .before .before .before .before .before in
+    c .before .before .stepped .kept .1 .1 .0 ∙ w .step .kept .1 .1 .1 .1 .0 ∙ w .before .before .before .before .loop .inv
 
 same-length : tie.Need-same-length Inv-loop μ-loop
-same-length c = c .before .loop .inv .1 ∙ sym (c .before .before .before .before .before .before .before .before .before .pre .1)
+same-length c = c .before .loop .inv ∙ sym (c .before .before .before .before .before .before .before .before .before .pre)
 
 returns : tie.Need-returns Inv-loop μ-loop
 returns c = tt
@@ -61,12 +52,8 @@ read-stream-spec =
     fresh-requires
     probe-requires
     loop-holds
-    piece-end-requires
-    sub-feed
-    part-feed-start
-    part-feed-end
-    feed-requires
-    probe-requires-2
+    step-requires
+    stepped-requires
     loop-less
     loop-again
     same-length
