@@ -2,7 +2,6 @@
 // bytes, or the tally cannot be written, a line on standard error says so, and no tally is written.
 mod text;
 
-ghost use Prim.Native.Nat.{_≤_};
 use labelling::Tally;
 use libc::STDERR_FILENO;
 use libc::STDIN_FILENO;

@@ -1,5 +1,4 @@
 -- `codec_vectors::double` is safe: a pattern that is not above infinity's, its sign left out, is no NaN's. Assumes nothing.
-use mathlib.Core.Path.{_∙_}
 use lib.Ieee.{binary64}
 use lib.Ieee.Bits.{nanBits-above}
 use borrow.Author.Needs.{needs}

@@ -1,10 +1,8 @@
 -- `vectors::sums::is_other` meets its contract. Assumes nothing.
-use mathlib.Core.Path.{_≡_, sym, ap}
 use denote.Ref.{now}
 use lib.ListN.{drop-of-length-le}
 use lib.Seq.{drop-cons}
 use borrow.Author.Needs.{needs}
-use Rattle.vectors.specs.Folds.{isOtherFirst}
 use Rattle.vectors.proofs.sums.is_other.Statement.{statement}
 use Rattle.vectors.proofs.sums.is_other.Tie as tie
 
