@@ -1,0 +1,37 @@
+-- Laws of `answered` and `refusal`: what is asked of an answer is asked of each of its cases. Assumes nothing.
+use mathlib.Core.Path.{_≡_, refl, ap, _∙_}
+use mathlib.Core.Bool.{Bool, true, false, cond}
+use mathlib.Core.List.{List, [], _∷_, _++_}
+use Prim.Native.Nat.{ℕ}
+use Rattle.base.specs.Refusal.{Line, answered, refusal}
+
+module _ {A B : Type 0} (f : A → B) where
+  cond-of : (b : Bool) (x y : A) → f (cond b x y) ≡ cond b (f x) (f y)
+  cond-of true x y = refl
+  cond-of false x y = refl
+
+  -- a function of the answer is that function of the refusal, or of what is given
+  pub answered-of : (refused : ℕ → A) (ls : List Line) (given : A) → f (answered refused ls given) ≡ answered (λ n. f (refused n)) ls (f given)
+  answered-of refused [] given = refl
+  answered-of refused (l ∷ ls) given =
+      cond-of (l .holds) (refused (l .number)) (answered refused ls given)
+      ∙ ap (λ (r : B). cond (l .holds) (f (refused (l .number))) r) (answered-of refused ls given)
+
+-- the number alone is the answer whose refusals are their numbers, and 0 is given
+pub number-alone : (ls : List Line) → answered (λ n. n) ls 0 ≡ refusal ls
+number-alone [] = refl
+number-alone (l ∷ ls) = ap (λ (r : ℕ). cond (l .holds) (l .number) r) (number-alone ls)
+
+module _ {A : Type 0} where
+  -- lines that are looked at after others
+  pub answered-append : (refused : ℕ → A) (ls ms : List Line) (given : A) → answered refused (ls ++ ms) given ≡ answered refused ls (answered refused ms given)
+  answered-append refused [] ms given = refl
+  answered-append refused (l ∷ ls) ms given = ap (λ (r : A). cond (l .holds) (refused (l .number)) r) (answered-append refused ls ms given)
+
+  -- the answer's number is the refusal's, where a refusal has its number, and what is given has 0
+  pub answered-number : (numberOf : A → ℕ) (refused : ℕ → A) (ls : List Line) (given : A) → ((n : ℕ) → numberOf (refused n) ≡ n)
+      → numberOf given ≡ 0 → numberOf (answered refused ls given) ≡ refusal ls
+  answered-number numberOf refused [] given told none = none
+  answered-number numberOf refused (l ∷ ls) given told none =
+      cond-of numberOf (l .holds) (refused (l .number)) (answered refused ls given)
+      ∙ rw (told (l .number), answered-number numberOf refused ls given told none)

@@ -1,0 +1,34 @@
+// The refusal numbers (paper 01, "Refusal numbers"), by name. When each is given is said by the lines of each entry's definition.
+
+// The tally is not in order.
+pub const NOT_IN_ORDER: u8 = 1;
+
+// A lent area, column, source or output has another length than it must have.
+pub const WRONG_LENGTH: u8 = 2;
+
+// The bytes so far and the piece are more than 2^40.
+pub const TOO_MANY_BYTES: u8 = 3;
+
+// The spacing is above 60.
+pub const SPACING_TOO_WIDE: u8 = 4;
+
+// A minor frame to write lacks its sync words, or its number is above 127.
+pub const NOT_A_MINOR_FRAME: u8 = 5;
+
+// The kind is above 3; or a column has none.
+pub const NO_SUCH_KIND: u8 = 6;
+
+// The kind has no such item.
+pub const NO_SUCH_ITEM: u8 = 7;
+
+// A digit or a field of a time is out of range.
+pub const TIME_OUT_OF_RANGE: u8 = 8;
+
+// The upper four bits of a 12-bit item are not 0.
+pub const UPPER_BITS_SET: u8 = 9;
+
+// A six-byte number is not normalised.
+pub const NOT_NORMALISED: u8 = 10;
+
+// A double has no six-byte word.
+pub const NO_WORD_FOR_DOUBLE: u8 = 11;
