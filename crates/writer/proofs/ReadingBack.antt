@@ -3,7 +3,7 @@
 use mathlib.Core.Path.{_≡_, refl, ap, _∙_}
 use mathlib.Core.Bool.{true, false}
 use mathlib.Core.List.{List, [], _∷_, _++_, map, append-assoc, append-nil}
-use Prim.Native.Nat.{ℕ, zero, suc, _+_, _≤_}
+use Prim.Native.Nat.{ℕ, zero, suc, _+_, _^_, _≤_}
 use native.Mathlib.Omega.{arith}
 use lib.ListN.{length, getD, replicate, length-append, length-map, List·getD-map}
 use borrow.Author.Tests.{eq-eqb}
@@ -19,11 +19,11 @@ use Rattle.labelling.specs.MinorFrames.{synced, anyErased, frameClass, sameClas
 use Rattle.labelling.specs.MajorFrames.{value, values, isGood, number, Run, major, runs, inBroken, inLoose, inBuilding}
 use Rattle.labelling.specs.Machine.{syncedBytes, fresh}
 use Rattle.labelling.specs.Calls.{Call, joined, Handed}
-use Rattle.labelling.specs.Once.{framesIn, majorsIn, Counts, Once}
+use Rattle.labelling.specs.Once.{framesIn, majorsIn, Counts, Once, ReadBySome}
 use Rattle.labelling.proofs.Pieces.{cuts, hunt-ends, frame-closes}
 use Rattle.labelling.proofs.FramingLaws.{class-of-bytes}
 use Rattle.labelling.proofs.RunCuts.{numbered-by, Chain, Cuts, cuts-both, ifAny, sumBy-ifAny, cuts-major}
-use Rattle.labelling.proofs.Demand.{once}
+use Rattle.labelling.proofs.Demand.{once, reaches}
 use Rattle.writer.specs.Stream.{stream, leadIn}
 use Rattle.writer.specs.ReadBack.{Minor, Numbered, AllWhole, written, reel, bytesOf, ReadBack, ReelPromise}
 
@@ -208,11 +208,15 @@ module _ (vote : Vote) (alike : (w : ℕ) → vote w w w ≡ Voted w) where
           count : Counts vote t (reel f mss)
           count = rw e at (all .counts)
 
+      -- some calls read it, and what they have taken is the reel
+      read-by-some : length (reel f mss) ≤ 2 ^ 40 → (a₀ : List ℕ) → length a₀ ≡ 16384 → (ps : List (List ℕ)) → concatMap (λ p. p) ps ≡ reel f mss
+          → (r : ReadBySome vote fresh a₀ ps) × ReadBack vote mss (r .calls) (r .tally)
+      read-by-some fits a₀ full ps e =
+          let r = reaches vote a₀ full ps (rw e fits) in
+          (r, read-back a₀ full (r .calls) (r .tally) (r .area) (r .handed) (r .joined-is ∙ e))
+
   pub reel-promise : ReelPromise vote
-  reel-promise = record {
-    reads-back = read-back;
-    goes-on = λ f mss few a₀ full cs t a p q h e. once vote a₀ full cs t a h .goes-on p (omega (arith, simp length-append at (ap length e)));
-  }
+  reel-promise = record { some-list = read-by-some; every-list = read-back }
 
 -- 01's vote gives the word that three equal copies have
 pub byte-reel-promise : ReelPromise byteVote

@@ -9,7 +9,8 @@ use Rattle.base.specs.Lists.{concatMap}
 use Rattle.labelling.specs.declared.Tally.{Tally}
 use Rattle.labelling.specs.Words.{Vote}
 use Rattle.labelling.specs.Machine.{syncedBytes, fresh}
-use Rattle.labelling.specs.Calls.{Call, takeRefusal, joined, paid, Handed}
+use Rattle.labelling.specs.Calls.{Call, joined, paid, Handed}
+use Rattle.labelling.specs.Once.{ReadBySome}
 use Rattle.writer.specs.Stream.{stream, leadIn}
 
 -- a minor frame to write
@@ -58,10 +59,10 @@ module _ (vote : Vote) where
     pub no-loose : t .runs .loose ≡ 0
     pub none-building : t .runs .building ≡ 0
 
-  -- over every list of calls that has taken the bytes of a reel, with any cuts and refused calls among them; and while at most 2^40 bytes
-  -- are asked for, no call for the next piece is refused
+  -- a reel of 2^40 bytes at most, cut into any pieces, is read by some list of calls, none of them refused; and every list whose joined bytes
+  -- are a reel's, with any cuts and refused calls among them, has read it back
   pub record ReelPromise : Type 0 where
-    pub reads-back : (f : ℕ) (mss : List (List Minor)) → AllWhole mss → (a₀ : List ℕ) → length a₀ ≡ 16384 → (cs : List Call) (t : Tally) (a : List ℕ)
-        → Handed vote fresh a₀ cs t a → joined vote cs ≡ reel f mss → ReadBack mss cs t
-    pub goes-on : (f : ℕ) (mss : List (List Minor)) → length (reel f mss) ≤ 2 ^ 40 → (a₀ : List ℕ) → length a₀ ≡ 16384 → (cs : List Call) (t : Tally) (a p q : List ℕ)
-        → Handed vote fresh a₀ cs t a → joined vote cs ++ (p ++ q) ≡ reel f mss → takeRefusal (record { tally = t; piece = p; area = a }) ≡ 0
+    pub some-list : (f : ℕ) (mss : List (List Minor)) → AllWhole mss → length (reel f mss) ≤ 2 ^ 40 → (a₀ : List ℕ) → length a₀ ≡ 16384
+        → (ps : List (List ℕ)) → concatMap (λ p. p) ps ≡ reel f mss → (r : ReadBySome vote fresh a₀ ps) × ReadBack mss (r .calls) (r .tally)
+    pub every-list : (f : ℕ) (mss : List (List Minor)) → AllWhole mss → (a₀ : List ℕ) → length a₀ ≡ 16384
+        → (cs : List Call) (t : Tally) (a : List ℕ) → Handed vote fresh a₀ cs t a → joined vote cs ≡ reel f mss → ReadBack mss cs t
