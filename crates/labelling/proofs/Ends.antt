@@ -5,13 +5,13 @@ use mathlib.Core.List.{List, [], _∷_, _++_}
 use Prim.Native.Nat.{ℕ, zero, suc, _+_, _≤_}
 use native.Mathlib.Omega.{arith}
 use lib.Dec.{eqb}
-use borrow.Author.Tests.{eqb-true}
+use borrow.Author.Tests.{eqb-true, ne-eqb}
 use Rattle.base.specs.Format.{syncWord}
 use Rattle.labelling.specs.declared.Word.{Word}
 use Rattle.labelling.specs.declared.Word.the-variants.{Voted, Erased}
 use Rattle.labelling.specs.MinorFrames.{isWord, hunted}
 use Rattle.labelling.specs.Machine.{WordEvent, hunts, locks, fills, closes-frame, huntEvent}
-use Rattle.labelling.specs.Rest.{spells, endsWith, syncTo, matchIn}
+use Rattle.labelling.specs.Rest.{spells, endsWith, syncTo, huntsAfter, matchIn}
 
 -- ---- one word more
 
@@ -103,6 +103,12 @@ match-is (suc zero) p h m = rw (m .in-one, m .in-two)
 match-is (suc (suc zero)) p h m = rw (m .in-two)
 match-is (suc (suc (suc n))) p h m = absurd (omega arith)
 
--- a hunt that has ended matches nothing
+pub still-hunts : (n : ℕ) (p : List Word) → n ≤ 2 → Ends n p → huntsAfter (hunted p) ≡ true
+still-hunts n p h m = rw (m .in-three, ne-eqb n 3 (omega arith))
+
+-- a hunt that has ended, and matches nothing
+pub hunt-ended : (p : List Word) → Ends 3 p → huntsAfter (hunted p) ≡ false
+hunt-ended p m = rw (m .in-three)
+
 pub match-ended : (p : List Word) → Ends 3 p → matchIn (hunted p) ≡ 0
 match-ended p m = rw (m .in-one, m .in-two)

@@ -22,7 +22,8 @@ use Rattle.labelling.specs.Calls.{Call, joined, Handed}
 use Rattle.labelling.specs.Once.{framesIn, majorsIn, Counts, Once, ReadBySome}
 use Rattle.labelling.proofs.Pieces.{cuts, hunt-ends, frame-closes}
 use Rattle.labelling.proofs.FramingLaws.{class-of-bytes}
-use Rattle.labelling.proofs.RunCuts.{numbered-by, Chain, Cuts, cuts-both, ifAny, sumBy-ifAny, cuts-major}
+use Rattle.labelling.proofs.IfAny.{ifAny, sumBy-ifAny}
+use Rattle.labelling.proofs.RunCuts.{numbered-by, Chain, Cuts, cuts-both, cuts-major}
 use Rattle.labelling.proofs.Demand.{once, reaches}
 use Rattle.writer.specs.Stream.{stream, leadIn}
 use Rattle.writer.specs.ReadBack.{Minor, Numbered, AllWhole, written, reel, bytesOf, ReadBack, ReelPromise}
