@@ -1,6 +1,6 @@
 -- What the last words of a hunt match of FA F3 20: one word more matches one word more, or FA, or nothing. Assumes nothing.
 use mathlib.Core.Path.{_≡_, refl, sym, _∙_}
-use mathlib.Core.Bool.{Bool, true, false, cond, _&&_, _||_, and-assoc, and-true, and-false, or-false, and-or-distrib-right}
+use mathlib.Core.Bool.{Bool, true, false, _&&_, and-assoc, and-true, and-false, or-false, and-or-distrib-right}
 use mathlib.Core.List.{List, [], _∷_, _++_}
 use Prim.Native.Nat.{ℕ, zero, suc, _+_, _≤_}
 use native.Mathlib.Omega.{arith}

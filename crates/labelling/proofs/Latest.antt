@@ -1,5 +1,5 @@
 -- Laws of the last element of a list. Assumes nothing.
-use mathlib.Core.Path.{_≡_, refl, _∙_}
+use mathlib.Core.Path.{_≡_, refl}
 use mathlib.Core.List.{List, [], _∷_, _++_, map, map-append}
 use Rattle.base.specs.Lists.{concatMap}
 use Rattle.base.proofs.Lists.{concatMap-append}

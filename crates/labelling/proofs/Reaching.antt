@@ -1,7 +1,7 @@
 -- Lists of calls that read given pieces: they are handed on and take the pieces joined, and every stream that fits in 2^40 bytes has one. A
 -- call is accepted while the bytes fit, and one that stops has taken a byte, so that a piece is read after as many calls as it has bytes at most.
 -- Assumes nothing.
-use mathlib.Core.Path.{_≡_, refl, _∙_}
+use mathlib.Core.Path.{_≡_, refl}
 use mathlib.Core.Bool.{Bool, true, false}
 use mathlib.Core.List.{List, [], _∷_, _++_, append-assoc}
 use Prim.Native.Nat.{ℕ, zero, suc, _+_, _^_, _≤_}
@@ -12,9 +12,9 @@ use Rattle.base.specs.Lists.{concatMap}
 use Rattle.labelling.specs.declared.Tally.{Tally}
 use Rattle.labelling.specs.Words.{Vote}
 use Rattle.labelling.specs.Order.{inOrder}
-use Rattle.labelling.specs.Calls.{Call, takeRefusal, answer, taken, joined, Handed, done, refused, accepted, left, Reads, all-read, takes-all, stops}
+use Rattle.labelling.specs.Calls.{Call, takeRefusal, answer, taken, joined, Handed, done, refused, accepted, left, Reads, all-read, takes-all}
+use Rattle.labelling.specs.Calls.{stops}
 use Rattle.labelling.specs.Once.{framesIn, ReadBySome}
-use Rattle.labelling.proofs.ByteLayer.{GroupsInv}
 use Rattle.labelling.proofs.RunSteps.{area-length}
 use Rattle.labelling.proofs.Feeding.{Extent, WholeInv, FedRight, feed-right}
 use Rattle.labelling.proofs.CallLaws.{no-refusal, accepted-answer, accepted-extent, answer-ordered}

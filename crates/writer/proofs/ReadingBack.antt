@@ -5,7 +5,7 @@ use mathlib.Core.Bool.{true, false}
 use mathlib.Core.List.{List, [], _∷_, _++_, map, append-assoc, append-nil}
 use Prim.Native.Nat.{ℕ, zero, suc, _+_, _^_, _≤_}
 use native.Mathlib.Omega.{arith}
-use lib.ListN.{length, getD, replicate, length-append, length-map, List·getD-map}
+use lib.ListN.{length, getD, replicate, length-map, List·getD-map}
 use borrow.Author.Tests.{eq-eqb}
 use Rattle.base.specs.Lists.{concatMap, sumBy}
 use Rattle.base.proofs.Lists.{sumBy-append}
@@ -14,8 +14,10 @@ use Rattle.labelling.specs.declared.FrameClass.the-variants.{Good, Damaged, Uns
 use Rattle.labelling.specs.declared.Tally.{Tally}
 use Rattle.labelling.specs.declared.Word.{Word}
 use Rattle.labelling.specs.declared.Word.the-variants.{Voted, Erased}
-use Rattle.labelling.specs.Words.{SYNC, FILL, outside, Vote, byteVote, Label, as-fill, as-stray, as-voted, as-split, as-open, sameLabel, words, labels, labelled}
-use Rattle.labelling.specs.MinorFrames.{synced, anyErased, frameClass, sameClass, placing, hunted, frame, pieces, frameOf, frames, inHunted, inPart, classed}
+use Rattle.labelling.specs.Words.{SYNC, FILL, outside, Vote, byteVote, Label, as-fill, as-stray, as-voted, as-split, as-open, sameLabel, words}
+use Rattle.labelling.specs.Words.{labels, labelled}
+use Rattle.labelling.specs.MinorFrames.{synced, anyErased, frameClass, sameClass, placing, hunted, frame, pieces, frameOf, frames, inHunted, inPart}
+use Rattle.labelling.specs.MinorFrames.{classed}
 use Rattle.labelling.specs.MajorFrames.{value, values, isGood, number, Run, major, runs, inBroken, inLoose, inBuilding}
 use Rattle.labelling.specs.Machine.{syncedBytes, fresh}
 use Rattle.labelling.specs.Calls.{Call, joined, Handed}
