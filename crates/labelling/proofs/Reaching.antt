@@ -1,18 +1,19 @@
 -- Lists of calls that read given pieces: they are handed on and take the pieces joined, and every stream that fits in 2^40 bytes has one. A
 -- call is accepted while the bytes fit, and one that stops has taken a byte, so that a piece is read after as many calls as it has bytes at most.
 -- Assumes nothing.
-use mathlib.Core.Path.{_≡_, refl}
+use mathlib.Core.Path.{_≡_, refl, sym, _∙_}
 use mathlib.Core.Bool.{Bool, true, false}
-use mathlib.Core.List.{List, [], _∷_, _++_, append-assoc}
+use mathlib.Core.List.{List, [], _∷_, _++_, append-assoc, append-nil}
 use Prim.Native.Nat.{ℕ, zero, suc, _+_, _^_, _≤_}
 use native.Mathlib.Omega.{arith}
 use lib.ListN.{length, take, drop, length-append, length-drop, take-append-drop}
 use lib.Seq.{take-all, length-take-le}
 use Rattle.base.specs.Lists.{concatMap}
+use Rattle.base.proofs.Lists.{concatMap-append}
 use Rattle.labelling.specs.declared.Tally.{Tally}
 use Rattle.labelling.specs.Words.{Vote}
 use Rattle.labelling.specs.Order.{inOrder}
-use Rattle.labelling.specs.Calls.{Call, takeRefusal, answer, taken, joined, Handed, done, refused, accepted, left, Reads, all-read, takes-all}
+use Rattle.labelling.specs.Calls.{Call, takeRefusal, answer, taken, joined, Handed, done, refused, accepted, left, Reads, no-call, takes-all}
 use Rattle.labelling.specs.Calls.{stops}
 use Rattle.labelling.specs.Once.{framesIn, ReadBySome}
 use Rattle.labelling.proofs.RunSteps.{area-length}
@@ -26,34 +27,49 @@ stream ps = concatMap (λ p. p) ps
 module _ (vote : Vote) where
   -- ---- one list after another
 
+  pub joined-append : (cs ds : List Call) → joined vote (cs ++ ds) ≡ joined vote cs ++ joined vote ds
+  unfolding joined
+  joined-append cs ds = concatMap-append (taken vote) cs ds
+
   pub handed-append : {t u v : Tally} {a b c : List ℕ} {cs ds : List Call} → Handed vote t a cs u b → Handed vote u b ds v c
       → Handed vote t a (cs ++ ds) v c
   handed-append done k = k
   handed-append (refused c n e h) k = refused c n e (handed-append h k)
   handed-append (accepted c e h) k = accepted c e (handed-append h k)
 
-  pub reads-append : {t u v : Tally} {a b c : List ℕ} {ps qs : List (List ℕ)} {cs ds : List Call} → Reads vote t a ps cs u b
-      → Reads vote u b qs ds v c → Reads vote t a (ps ++ qs) (cs ++ ds) v c
-  reads-append all-read k = k
+  pub reads-append : {t u v : Tally} {a b c : List ℕ} {ps qs rs : List (List ℕ)} {cs ds : List Call} → Reads vote t a ps cs u b qs
+      → Reads vote u b qs ds v c rs → Reads vote t a ps (cs ++ ds) v c rs
+  reads-append no-call k = k
   reads-append (takes-all c e n r) k = takes-all c e n (reads-append r k)
   reads-append (stops c e n r) k = stops c e n (reads-append r k)
 
   -- ---- a list that reads the pieces
 
-  pub reads-handed : {t u : Tally} {a b : List ℕ} {ps : List (List ℕ)} {cs : List Call} → Reads vote t a ps cs u b → Handed vote t a cs u b
-  reads-handed all-read = done
+  pub reads-handed : {t u : Tally} {a b : List ℕ} {ps qs : List (List ℕ)} {cs : List Call} → Reads vote t a ps cs u b qs → Handed vote t a cs u b
+  reads-handed no-call = done
   reads-handed (takes-all c e n r) = accepted c e (reads-handed r)
   reads-handed (stops c e n r) = accepted c e (reads-handed r)
 
-  pub reads-joined : {t u : Tally} {a b : List ℕ} {ps : List (List ℕ)} {cs : List Call} → Reads vote t a ps cs u b → joined vote cs ≡ stream ps
+  -- what it has taken, and what is left, are the pieces joined
+  pub reads-joined : {t u : Tally} {a b : List ℕ} {ps qs : List (List ℕ)} {cs : List Call} → Reads vote t a ps cs u b qs
+      → joined vote cs ++ stream qs ≡ stream ps
   unfolding joined taken left
-  reads-joined all-read = refl
-  reads-joined (takes-all c e n r) = rw (take-all (answer vote c .taken) (c .piece) (omega arith), reads-joined r)
-  reads-joined (stops {ps} c e n r) =
-      rw (reads-joined r, ← append-assoc (taken vote c) (left vote c) (stream ps), take-append-drop (answer vote c .taken) (c .piece))
+  reads-joined no-call = refl
+  reads-joined (takes-all {ps} {qs} {cs} c e n r) =
+      append-assoc (taken vote c) (joined vote cs) (stream qs) ∙ rw (reads-joined r, take-all (answer vote c .taken) (c .piece) (omega arith))
+  reads-joined (stops {ps} {qs} {cs} c e n r) =
+      append-assoc (taken vote c) (joined vote cs) (stream qs)
+      ∙ rw (reads-joined r, ← append-assoc (taken vote c) (left vote c) (stream ps), take-append-drop (answer vote c .taken) (c .piece))
 
-  by-reads : {t u : Tally} {a b : List ℕ} {ps : List (List ℕ)} {cs : List Call} → Reads vote t a ps cs u b → ReadBySome vote t a ps
-  by-reads r = record { calls = _; tally = _; area = _; reads = r; handed = reads-handed r; joined-is = reads-joined r }
+  by-reads : {t u : Tally} {a b : List ℕ} {ps : List (List ℕ)} {cs : List Call} → Reads vote t a ps cs u b [] → ReadBySome vote t a ps
+  by-reads {cs} r = record {
+    calls = _;
+    tally = _;
+    area = _;
+    reads = r;
+    handed = reads-handed r;
+    joined-is = sym (append-nil (joined vote cs)) ∙ reads-joined r;
+  }
 
   -- ---- every stream has such a list
 
@@ -128,5 +144,5 @@ module _ (vote : Vote) where
     piece-readable (suc n) p ps few k = read-piece p ps k (λ m some h. piece-readable n (drop m p) ps (omega (arith, length-drop m p)) k)
 
     pub readable : (ps : List (List ℕ)) → Readable ps
-    readable [] t a xs i fits = by-reads all-read
+    readable [] t a xs i fits = by-reads no-call
     readable (p ∷ ps) t a xs i fits = piece-readable (length p) p ps (omega arith) (readable ps) t a xs i fits

@@ -5,6 +5,7 @@ use mathlib.Core.Bool.{true}
 use mathlib.Core.List.{List, [], _∷_, _++_, map}
 use Prim.Native.Nat.{ℕ, suc, _≤_, _^_}
 use lib.ListN.{length, getD}
+use Rattle.base.specs.Format.{majorFrame}
 use Rattle.base.specs.Lists.{concatMap}
 use Rattle.labelling.specs.declared.Tally.{Tally}
 use Rattle.labelling.specs.Words.{Vote}
@@ -62,7 +63,7 @@ module _ (vote : Vote) where
   -- a reel of 2^40 bytes at most, cut into any pieces, is read by some list of calls, none of them refused; and every list whose joined bytes
   -- are a reel's, with any cuts and refused calls among them, has read it back
   pub record ReelPromise : Type 0 where
-    pub some-list : (f : ℕ) (mss : List (List Minor)) → AllWhole mss → length (reel f mss) ≤ 2 ^ 40 → (a₀ : List ℕ) → length a₀ ≡ 16384
+    pub some-list : (f : ℕ) (mss : List (List Minor)) → AllWhole mss → length (reel f mss) ≤ 2 ^ 40 → (a₀ : List ℕ) → length a₀ ≡ majorFrame
         → (ps : List (List ℕ)) → concatMap (λ p. p) ps ≡ reel f mss → (r : ReadBySome vote fresh a₀ ps) × ReadBack mss (r .calls) (r .tally)
-    pub every-list : (f : ℕ) (mss : List (List Minor)) → AllWhole mss → (a₀ : List ℕ) → length a₀ ≡ 16384
+    pub every-list : (f : ℕ) (mss : List (List Minor)) → AllWhole mss → (a₀ : List ℕ) → length a₀ ≡ majorFrame
         → (cs : List Call) (t : Tally) (a : List ℕ) → Handed vote fresh a₀ cs t a → joined vote cs ≡ reel f mss → ReadBack mss cs t
