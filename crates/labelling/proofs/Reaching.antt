@@ -13,8 +13,8 @@ use Rattle.base.proofs.Lists.{concatMap-append}
 use Rattle.labelling.specs.declared.Tally.{Tally}
 use Rattle.labelling.specs.Words.{Vote}
 use Rattle.labelling.specs.Order.{inOrder}
-use Rattle.labelling.specs.Calls.{Call, takeRefusal, answer, taken, joined, Handed, done, refused, accepted, left, Reads, no-call, takes-all}
-use Rattle.labelling.specs.Calls.{stops}
+use Rattle.labelling.specs.Calls.{Call, takeRefusal, answer, taken, joined, Handed, done, refused, accepted}
+use Rattle.labelling.specs.Calls.{left, Reads, no-call, takes-all, stops}
 use Rattle.labelling.specs.Once.{framesIn, ReadBySome}
 use Rattle.labelling.proofs.RunSteps.{area-length}
 use Rattle.labelling.proofs.Feeding.{Extent, WholeInv, FedRight, feed-right}

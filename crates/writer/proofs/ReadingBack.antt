@@ -23,7 +23,7 @@ use Rattle.labelling.specs.Machine.{syncedBytes, fresh}
 use Rattle.labelling.specs.Calls.{Call, joined, Handed}
 use Rattle.labelling.specs.Once.{framesIn, majorsIn, Counts, Once, ReadBySome}
 use Rattle.labelling.proofs.Pieces.{cuts, hunt-ends, frame-closes}
-use Rattle.labelling.proofs.FramingLaws.{class-of-bytes}
+use Rattle.labelling.proofs.FrameClasses.{class-of-bytes}
 use Rattle.labelling.proofs.IfAny.{ifAny, sumBy-ifAny}
 use Rattle.labelling.proofs.RunCuts.{numbered-by, Chain, Cuts, cuts-both, cuts-major}
 use Rattle.labelling.proofs.Demand.{once, reaches}
