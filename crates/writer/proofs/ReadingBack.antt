@@ -95,7 +95,7 @@ framed-minor {ws} m full sync r = record {
 framed-minors : {ws : List Word} {fs : List (List Word)} (n : ℕ) (ms : List Minor) → Numbered n ms → Framed ws fs
     → Framed (concatMap asFrame ms ++ ws) (asMajor ms ++ fs)
 framed-minors n [] c r = r
-framed-minors n (m ∷ ms) c r = rw append-assoc (framed-minor m (c .0) (c .1) (framed-minors (suc n) ms (c .3) r))
+framed-minors n (m ∷ ms) c r = rw append-assoc (framed-minor m (c .0) (c .1) (framed-minors _ ms (c .3) r))
 
 framed-majors : (mss : List (List Minor)) → AllWhole mss → Framed (allWords mss) (allFrames mss)
 unfolding classed
