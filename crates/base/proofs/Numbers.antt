@@ -2,14 +2,16 @@
 -- number with bytes more at its end. Assumes nothing.
 use mathlib.Core.Path.{_≡_, refl, sym, ap, _∙_, subst}
 use mathlib.Core.List.{List, [], _∷_, _++_}
-use Prim.Native.Nat.{ℕ, zero, suc, _+_, _*_, _/_, _%_, _^_, _≤_, _<_}
+use Prim.Native.Nat.{ℕ, zero, suc, _+_, _-_, _*_, _/_, _%_, _^_, _≤_, _<_}
 use native.Mathlib.Omega.{arith}
-use native.Mathlib.Nat.{one-le-pow, mod-one, mod-lt, mod-eq-of-lt, pow-succ', pow-le-pow-right, div-div-eq-div-mul, mul-comm, mul-assoc, add-mul, add-assoc, mul-one, add-zero}
+use native.Mathlib.Nat.{one-le-pow, mod-one, mod-lt, mod-eq-of-lt, pow-suc, pow-succ', pow-le-pow-right, div-div-eq-div-mul, mul-assoc, add-mul, add-assoc}
+use native.Mathlib.Numerals.{add-one}
 use lib.Arith.{digits-lt, digits-div, digits-mod, mod-mul}
 use lib.Dec.{T, ltb, lt→ltb, lit<}
 use lib.Ieee.Fits.{and-i}
-use lib.ListN.{length, getD, length-append}
+use lib.ListN.{length, getD, take, drop, set, length-append, length-set}
 use lib.Pow.{areBytes, pow-add}
+use lib.Seq.{take-suc, drop-length, drop-cons, getD-set-same, drop-set-lt}
 use Rattle.base.specs.Numbers.{bigEndian, bytesOf}
 use Rattle.base.proofs.Lists.{byte-at}
 
@@ -101,3 +103,46 @@ pub written-back : (w : List ℕ) → Bytes w → bytesOf (length w) (bigEndian 
 written-back w h =
     let x = bigEndian w in
     same-bytes (bytesOf (length w) x) w (length-bytesOf (length w) x) (bytes-of (length w) x) h (read-back (length w) x (big-endian-below w h))
+
+-- ---- a byte at a time, as the code goes
+
+-- a number of 64 bits with one byte more at its end
+pub read-step : (w : List ℕ) (i n b : ℕ) → i < length w → b ≡ getD w i 0 → b < 256 → n ≡ bigEndian (take i w) % 2 ^ 64
+    → n % 2 ^ 56 * 256 + b ≡ bigEndian (take (i + 1) w) % 2 ^ 64
+read-step w i n b h e B so-far =
+    let taken : take (i + 1) w ≡ take i w ++ (b ∷ []) = rw (add-one, take-suc w i 0 h, e) in
+    rw (taken, big-endian-end (take i w) b) (shifted (bigEndian (take i w)) n so-far)
+  where
+    shifted : (x n : ℕ) → n ≡ x % 2 ^ 64 → n % 2 ^ 56 * 256 + b ≡ (x * 256 + b) % 2 ^ 64
+    shifted x n f = omega arith
+
+-- from place i on the bytes are the last of x, and what is left of it is yet to be written
+pub record Stored (x : ℕ) (out : List ℕ) (i rest : ℕ) : Type 0 where
+  pub inside : i ≤ length out
+  pub left : rest ≡ x / 256 ^ (length out - i)
+  pub stands : drop i out ≡ bytesOf (length out - i) x
+
+pub stored-none : (x : ℕ) (out : List ℕ) → Stored x out (length out) x
+stored-none x out =
+    let none : length out - length out ≡ 0 = omega arith in
+    record { inside = omega arith; left = rw none (omega arith); stands = rw none (drop-length out) }
+
+pub stored-more : (x : ℕ) (out : List ℕ) (i j rest : ℕ) → i ≡ j + 1 → Stored x out i rest → Stored x (set out j (rest % 256)) j (rest / 256)
+stored-more x out i j rest e s =
+    let b = rest % 256 in
+    let same : length (set out j b) ≡ length out = length-set out j b in
+    let more : length out - j ≡ suc (length out - i) = omega arith in
+    let next : suc j ≡ i = omega arith in
+    record {
+      inside = omega arith;
+      left = rw (same, more, pow-suc 256 (length out - i), ← div-div-eq-div-mul x (256 ^ (length out - i)) 256, ← s .left);
+      stands =
+          rw (same, more, ← s .left, ← s .stands)
+          (drop-cons (set out j b) j 0 (omega arith)
+          ∙ rw (getD-set-same out j b 0 (omega arith), drop-set-lt (suc j) out j b (omega arith), next));
+    }
+
+pub stored-all : (x : ℕ) (out : List ℕ) (i rest : ℕ) → i ≡ 0 → Stored x out i rest → out ≡ bytesOf (length out) x
+stored-all x out i rest e s =
+    let all : length out - i ≡ length out = omega arith in
+    sym (ap (λ (k : ℕ). drop k out) e) ∙ s .stands ∙ ap (λ (k : ℕ). bytesOf k x) all
