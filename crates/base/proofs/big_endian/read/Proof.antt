@@ -45,8 +45,9 @@ loop-less c = search needs
 
 loop-again : tie.Need-loop-again Inv-loop μ-loop
 loop-again c =
-    let l = c .before .before .before .loop in
-    let bytes = now (c .before .before .before .before .before .args .bytes) in
+    let head = c .before .before .before in
+    let l = head .loop in
+    let bytes = now (head .before .before .args .bytes) in
     let byte : c .wide .result < 256 = omega (arith, c .before .shared-slice-known2 .given (l .i)) in
     (omega arith, read-step bytes (l .i) (l .n) (c .wide .result) (omega arith) (c .wide .ensures) byte (l .inv .1))
 
