@@ -20,9 +20,12 @@ numberOf (Time t) = 0
 numberOf Fill = 0
 numberOf (Refused n) = n
 
+abbrev pub bitsIn : EightFlags → List Bool
+bitsIn f = f .bit0 ∷ f .bit1 ∷ f .bit2 ∷ f .bit3 ∷ f .bit4 ∷ f .bit5 ∷ f .bit6 ∷ f .bit7 ∷ []
+
 abbrev pub valuesOf : Reading → List Value
 valuesOf (Count n) = count n ∷ []
-valuesOf (Flags f) = flags (f .bit0 ∷ f .bit1 ∷ f .bit2 ∷ f .bit3 ∷ f .bit4 ∷ f .bit5 ∷ f .bit6 ∷ f .bit7 ∷ []) ∷ []
+valuesOf (Flags f) = flags (bitsIn f) ∷ []
 valuesOf (Number v) = number v ∷ []
 valuesOf (Time t) = time (t .spacecraft) (t .instant) ∷ []
 valuesOf Fill = fill ∷ []
