@@ -17,6 +17,26 @@ module _ {A B : Type 0} (f : A → B) where
       cond-of (l .holds) (refused (l .number)) (answered refused ls given)
       ∙ ap (λ (r : B). cond (l .holds) (f (refused (l .number))) r) (answered-of refused ls given)
 
+-- no line holds
+abbrev pub NoneHolds : List Line → Type 0
+NoneHolds [] = Unit {0}
+NoneHolds (l ∷ ls) = (l .holds ≡ false) × NoneHolds ls
+
+module _ {A : Type 0} (refused : ℕ → A) where
+  -- an answer that is no refusal is given where no line holds, and is what is given
+  pub answered-none : (ls : List Line) (given a : A) → ((n : ℕ) → refused n ≡ a → ⊥) → answered refused ls given ≡ a → NoneHolds ls × (given ≡ a)
+  answered-none [] given a other = λ e. (tt, e)
+  answered-none (l ∷ ls) given a other = go (l .holds) refl (answered-none ls given a other)
+    where
+      go : (b : Bool) → l .holds ≡ b → (answered refused ls given ≡ a → NoneHolds ls × (given ≡ a))
+          → cond b (refused (l .number)) (answered refused ls given) ≡ a → NoneHolds (l ∷ ls) × (given ≡ a)
+      go true h later e = absurd (other (l .number) e)
+      go false h later e = let rest = later e in ((h, rest .0), rest .1)
+
+  pub answered-given : (ls : List Line) (given : A) → NoneHolds ls → answered refused ls given ≡ given
+  answered-given [] given none = refl
+  answered-given (l ∷ ls) given none = rw (none .0) (answered-given ls given (none .1))
+
 -- the number alone is the answer whose refusals are their numbers, and 0 is given
 pub number-alone : (ls : List Line) → answered (λ n. n) ls 0 ≡ refusal ls
 number-alone [] = refl
@@ -24,7 +44,8 @@ number-alone (l ∷ ls) = ap (λ (r : ℕ). cond (l .holds) (l .number) r) (numb
 
 module _ {A : Type 0} where
   -- lines that are looked at after others
-  pub answered-append : (refused : ℕ → A) (ls ms : List Line) (given : A) → answered refused (ls ++ ms) given ≡ answered refused ls (answered refused ms given)
+  pub answered-append : (refused : ℕ → A) (ls ms : List Line) (given : A)
+      → answered refused (ls ++ ms) given ≡ answered refused ls (answered refused ms given)
   answered-append refused [] ms given = refl
   answered-append refused (l ∷ ls) ms given = ap (λ (r : A). cond (l .holds) (refused (l .number)) r) (answered-append refused ls ms given)
 
