@@ -73,11 +73,12 @@ returns c =
     let days = hours .before in
     let a = days .before .args in
     let w : List ℕ = a .b0 ∷ a .b1 ∷ a .b2 ∷ a .b3 ∷ a .b4 ∷ a .b5 ∷ a .b6 ∷ [] in
-    omega
-    (arith,
-    instant-read w (days .day .result) (hours .two-digits .result) (minutes .two-digits2 .result) (seconds .two-digits3 .result)
-    (tens .two-digits4 .result) (units .high .result) (c .low .result) (omega arith) (omega arith) (omega arith) (omega arith) (omega arith)
-    (omega arith))
+    omega (
+      arith,
+      instant-read w (days .day .result) (hours .two-digits .result) (minutes .two-digits2 .result) (seconds .two-digits3 .result)
+          (tens .two-digits4 .result) (units .high .result) (c .low .result) (omega arith) (omega arith) (omega arith) (omega arith) (omega arith)
+          (omega arith),
+    )
 
 pub instant-spec : {M : Type 1} → statement M
 instant-spec =
