@@ -52,6 +52,23 @@ carried form.Number bs = refl
 carried form.Time bs = refl
 carried form.Fill bs = refl
 
+-- a reading that is no number has no double to be exact
+abbrev isNumber : Reading → Bool
+isNumber (Count n) = false
+isNumber (Flags f) = false
+isNumber (Number v) = true
+isNumber (Time t) = false
+isNumber Fill = false
+isNumber (Refused n) = false
+
+pub no-number : (bs : List ℕ) (r : Reading) → isNumber r ≡ false → (v : Float) → valuesOf r ≡ number v ∷ [] → Exact bs v
+no-number bs (Count n) h v z = absurd (let q : _≡_ {A = ℕ} 0 1 = cc in omega arith)
+no-number bs (Flags f) h v z = absurd (let q : _≡_ {A = ℕ} 0 1 = cc in omega arith)
+no-number bs (Number u) h v z = absurd (let q : _≡_ {A = ℕ} 0 1 = cc in omega arith)
+no-number bs (Time t) h v z = absurd (let q : _≡_ {A = ℕ} 0 1 = cc in omega arith)
+no-number bs Fill h v z = absurd (let q : _≡_ {A = ℕ} 0 1 = cc in omega arith)
+no-number bs (Refused n) h v z = absurd (let q : _≡_ {A = ℕ} 0 1 = cc in omega arith)
+
 -- ---- the promise, from the answer
 
 holds : (b : Bool) → T b → b ≡ true
@@ -81,39 +98,39 @@ module _ (f : Form) (bs : List ℕ) (r : Reading) where
       let ls = readAsLines f bs in
       record { answer = e; refusal-is = ap numberOf e ∙ number-of ls f bs; value-is = ap valuesOf e ∙ values-of ls f bs; exact = exact }
 
-  pub wrong-length : suits f (length bs) ≡ false → r ≡ Refused 2 → ReadAsPromise f bs r
-  unfolding readAs
-  wrong-length s e = promised (rw s e) (λ v z. absurd (let q : _≡_ {A = ℕ} 0 1 = cc in omega arith))
+pub wrong-length : (f : Form) (bs : List ℕ) → suits f (length bs) ≡ false → ReadAsPromise f bs (Refused 2)
+unfolding readAs
+wrong-length f bs s = promised f bs (Refused 2) (rw s) (no-number bs (Refused 2) refl)
 
 -- ---- counts, flags, fill
 module _ (bs : List ℕ) (s : T (suits form.Count (length bs))) where
   pub count-read : (n : ℕ) → length bs ≤ 8 → n ≡ bigEndian bs → ReadAsPromise form.Count bs (Count n)
   count-read n h e =
-      promised form.Count bs (Count n) (rw (suited form.Count bs s, le-leb (length bs) 8 h, e)) (λ v z. absurd (let q : _≡_ {A = ℕ} 0 1 = cc in omega arith))
+      promised form.Count bs (Count n) (rw (suited form.Count bs s, le-leb (length bs) 8 h, e)) (no-number bs (Count n) refl)
 
   pub long-read : 8 < length bs → ReadAsPromise form.Count bs Fill
   long-read h =
-      promised form.Count bs Fill (rw (suited form.Count bs s, lt-leb (length bs) 8 h)) (λ v z. absurd (let q : _≡_ {A = ℕ} 0 1 = cc in omega arith))
+      promised form.Count bs Fill (rw (suited form.Count bs s, lt-leb (length bs) 8 h)) (no-number bs Fill refl)
 
 module _ (b c : ℕ) where
   pub twelve-read : (n : ℕ) → b / 16 ≡ 0 → n ≡ b * 256 + c → ReadAsPromise form.TwelveBit (b ∷ c ∷ []) (Count n)
   unfolding readAs
   twelve-read n h e =
       let low : n ≡ b % 16 * 256 + c = omega arith in
-      promised form.TwelveBit (b ∷ c ∷ []) (Count n) (rw (h, low)) (λ v z. absurd (let q : _≡_ {A = ℕ} 0 1 = cc in omega arith))
+      promised form.TwelveBit (b ∷ c ∷ []) (Count n) (rw (h, low)) (no-number (b ∷ c ∷ []) (Count n) refl)
 
   pub twelve-refused : (b / 16 ≡ 0 → ⊥) → ReadAsPromise form.TwelveBit (b ∷ c ∷ []) (Refused 9)
   unfolding readAs
   twelve-refused h =
-      promised form.TwelveBit (b ∷ c ∷ []) (Refused 9) (rw (ne-eqb (b / 16) 0 h)) (λ v z. absurd (let q : _≡_ {A = ℕ} 0 1 = cc in omega arith))
+      promised form.TwelveBit (b ∷ c ∷ []) (Refused 9) (rw (ne-eqb (b / 16) 0 h)) (no-number (b ∷ c ∷ []) (Refused 9) refl)
 
 pub flags-read : (bs : List ℕ) (g : EightFlags) → T (suits form.Flags (length bs)) → g ≡ flagsOf (bits (getD bs 0 0)) → ReadAsPromise form.Flags bs (Flags g)
 flags-read bs g s e =
-    promised form.Flags bs (Flags g) (rw (suited form.Flags bs s, e)) (λ v z. absurd (let q : _≡_ {A = ℕ} 0 1 = cc in omega arith))
+    promised form.Flags bs (Flags g) (rw (suited form.Flags bs s, e)) (no-number bs (Flags g) refl)
 
 pub fill-read : (bs : List ℕ) → T (suits form.Fill (length bs)) → ReadAsPromise form.Fill bs Fill
 fill-read bs s =
-    promised form.Fill bs Fill (rw (suited form.Fill bs s)) (λ v z. absurd (let q : _≡_ {A = ℕ} 0 1 = cc in omega arith))
+    promised form.Fill bs Fill (rw (suited form.Fill bs s)) (no-number bs Fill refl)
 
 -- ---- the codecs' answers as readings
 
@@ -140,7 +157,7 @@ module _ (bs : List ℕ) (six : length bs ≡ 6) where
 
   pub number-refused : (n : ℕ) → number-promise.DecodePromise bs (number-answer.the-variants.Refused n) → ReadAsPromise form.Number bs (Refused n)
   number-refused n p =
-      promised form.Number bs (Refused n) (ap ofNumber (p .answer) ∙ of-number) (λ v z. absurd (let q : _≡_ {A = ℕ} 0 1 = cc in omega arith))
+      promised form.Number bs (Refused n) (ap ofNumber (p .answer) ∙ of-number) (no-number bs (Refused n) refl)
 
 module _ (bs : List ℕ) (seven : length bs ≡ 7) where
   of-time : ofTime (time-codec.decoded bs) ≡ readAs form.Time bs
@@ -153,8 +170,8 @@ module _ (bs : List ℕ) (seven : length bs ≡ 7) where
 
   pub time-read : (t : TimeCode) → time-answer.the-variants.Time t ≡ time-codec.decoded bs → ReadAsPromise form.Time bs (Time t)
   time-read t e =
-      promised form.Time bs (Time t) (ap ofTime e ∙ of-time) (λ v z. absurd (let q : _≡_ {A = ℕ} 0 1 = cc in omega arith))
+      promised form.Time bs (Time t) (ap ofTime e ∙ of-time) (no-number bs (Time t) refl)
 
   pub time-refused : (n : ℕ) → time-answer.the-variants.Refused n ≡ time-codec.decoded bs → ReadAsPromise form.Time bs (Refused n)
   time-refused n e =
-      promised form.Time bs (Refused n) (ap ofTime e ∙ of-time) (λ v z. absurd (let q : _≡_ {A = ℕ} 0 1 = cc in omega arith))
+      promised form.Time bs (Refused n) (ap ofTime e ∙ of-time) (no-number bs (Refused n) refl)

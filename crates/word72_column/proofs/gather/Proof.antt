@@ -24,9 +24,10 @@ same-length c = search needs
 
 returns-3 : tie.Need-returns-3
 returns-3 c =
-    let a = c .before .before .before .before .before .before .before .before .args in
-    let p = c .before .before .put-words in
-    all-gathered (now (a .area)) (now (a .column)) (p .last .1 .0) (omega arith) (omega arith) (p .ensures)
+    let put = c .before .before in
+    let column-tested = put .before .before in
+    let a = column-tested .before .before .before .before .args in
+    all-gathered (now (a .area)) (now (a .column)) (put .put-words .last .1 .0) (omega arith) (omega arith) (put .put-words .ensures)
 
 pub gather-spec : {M : Type 1} → statement M
 gather-spec = tie.close (tie.spec returns returns-2 put-words-requires same-length returns-3)

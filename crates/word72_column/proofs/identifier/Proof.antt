@@ -17,7 +17,9 @@ all-hold-requires-2 c κs = search needs
 
 returns-2 : tie.Need-returns-2
 unfolding identifierOf
-returns-2 c = rw (sym (c .before .before .before .all-hold .ensures) ∙ c .before .before .if1 .left, sym (c .before .all-hold2 .ensures) ∙ c .if2 .taken)
+returns-2 c =
+    let not1 = c .before .before in
+    rw (sym (not1 .before .all-hold .ensures) ∙ not1 .if1 .left, sym (c .before .all-hold2 .ensures) ∙ c .if2 .taken)
 
 all-hold-requires-3 : tie.Need-all-hold-requires-3
 all-hold-requires-3 c κs = search needs
@@ -25,14 +27,18 @@ all-hold-requires-3 c κs = search needs
 returns-3 : tie.Need-returns-3
 unfolding identifierOf
 returns-3 c =
-    rw (sym (c .before .before .before .before .before .all-hold .ensures) ∙ c .before .before .before .before .if1 .left)
-    (rw (sym (c .before .before .before .all-hold2 .ensures) ∙ c .before .before .if2 .left, sym (c .before .all-hold3 .ensures) ∙ c .if3 .taken))
+    let not2 = c .before .before in
+    let not1 = not2 .before .before in
+    rw (sym (not1 .before .all-hold .ensures) ∙ not1 .if1 .left)
+    (rw (sym (not2 .before .all-hold2 .ensures) ∙ not2 .if2 .left, sym (c .before .all-hold3 .ensures) ∙ c .if3 .taken))
 
 returns-4 : tie.Need-returns-4
 unfolding identifierOf
 returns-4 c =
-    rw (sym (c .before .before .before .before .before .all-hold .ensures) ∙ c .before .before .before .before .if1 .left)
-    (rw (sym (c .before .before .before .all-hold2 .ensures) ∙ c .before .before .if2 .left, sym (c .before .all-hold3 .ensures) ∙ c .if3 .left))
+    let not2 = c .before .before in
+    let not1 = not2 .before .before in
+    rw (sym (not1 .before .all-hold .ensures) ∙ not1 .if1 .left)
+    (rw (sym (not2 .before .all-hold2 .ensures) ∙ not2 .if2 .left, sym (c .before .all-hold3 .ensures) ∙ c .if3 .left))
 
 pub identifier-spec : {M : Type 1} → statement M
 identifier-spec =

@@ -24,8 +24,9 @@ identifier-requires c κs = search needs
 
 returns-2 : tie.Need-returns-2
 returns-2 c =
-    let column = now (c .before .before .before .before .before .args .column) in
-    kind-named column _ (omega arith) (c .before .identifier .ensures) (c .if2 .taken)
+    let named = c .before in
+    let column = now (named .before .before .before .before .args .column) in
+    kind-named column _ (omega arith) (named .identifier .ensures) (c .if2 .taken)
 
 sub-is-time : tie.Need-sub-is-time
 sub-is-time c = search needs
@@ -41,15 +42,17 @@ is-time-requires c κs = search needs
 
 returns-3 : tie.Need-returns-3
 returns-3 c =
-    let column = now (c .before .before .before .before .before .before .before .before .args .column) in
-    kind-timed column (omega arith) (sym (c .before .before .before .before .identifier .ensures) ∙ c .before .before .before .if2 .left)
-    (sym (c .before .is-time .ensures) ∙ c .if3 .taken)
+    let unnamed = c .before .before .before in
+    let named = unnamed .before in
+    let column = now (named .before .before .before .before .args .column) in
+    kind-timed column (omega arith) (sym (named .identifier .ensures) ∙ unnamed .if2 .left) (sym (c .before .is-time .ensures) ∙ c .if3 .taken)
 
 returns-4 : tie.Need-returns-4
 returns-4 c =
-    let column = now (c .before .before .before .before .before .before .before .before .args .column) in
-    kind-refused-6 column (omega arith) (sym (c .before .before .before .before .identifier .ensures) ∙ c .before .before .before .if2 .left)
-    (sym (c .before .is-time .ensures) ∙ c .if3 .left)
+    let unnamed = c .before .before .before in
+    let named = unnamed .before in
+    let column = now (named .before .before .before .before .args .column) in
+    kind-refused-6 column (omega arith) (sym (named .identifier .ensures) ∙ unnamed .if2 .left) (sym (c .before .is-time .ensures) ∙ c .if3 .left)
 
 pub kind-spec : {M : Type 1} → statement M
 kind-spec =

@@ -23,15 +23,17 @@ seek-requires c κs = (omega arith, refl)
 
 returns-2 : tie.Need-returns-2
 returns-2 c =
-    let a = c .before .before .before .before .args in
-    let s = c .before .seek in
+    let from = c .before in
+    let a = from .before .before .before .args in
+    let s = from .seek in
     let none : a .item < itemCount (a .kind) → ⊥ = λ h. no-such (a .kind) (a .item) (omega arith) h (rw (c .if2 .taken) at (s .ensures)) in
     describe-refused-7 (a .kind) (a .item) (omega arith) (omega arith)
 
 add-seek : tie.Need-add-seek
 add-seek c =
-    let a = c .before .before .before .before .args in
-    let s = c .before .seek in
+    let from = c .before in
+    let a = from .before .before .before .args in
+    let s = from .seek in
     let n = is-item (a .kind) (a .item) (s .result) (omega arith) (s .ensures) (omega arith) in
     record { fits = omega (arith, few-items (a .kind) (omega arith)) }
 
@@ -45,16 +47,20 @@ form-at-requires c κs = (omega arith, omega arith, refl)
 
 sub-t13 : tie.Need-sub-t13
 sub-t13 c =
-    let a = c .before .before .before .before .before .before .before .args in
-    let s = c .before .before .before .before .seek in
-    in-order (a .kind) (a .item) (s .result) (omega arith) (s .ensures) (omega arith) _ (c .before .before .seek2 .ensures)
+    let to = c .before .before in
+    let from = to .before .before in
+    let a = from .before .before .before .args in
+    let s = from .seek in
+    in-order (a .kind) (a .item) (s .result) (omega arith) (s .ensures) (omega arith) _ (to .seek2 .ensures)
 
 returns-3 : tie.Need-returns-3
 returns-3 c =
-    let a = c .before .before .before .before .before .before .before .args in
-    let s = c .before .before .before .before .seek in
+    let to = c .before .before in
+    let from = to .before .before in
+    let a = from .before .before .before .args in
+    let s = from .seek in
     describe-found (a .kind) (a .item) _ (omega arith) (is-item (a .kind) (a .item) (s .result) (omega arith) (s .ensures) (omega arith))
-    (item-is (a .kind) (a .item) (s .result) (omega arith) (s .ensures) (omega arith) _ (c .before .before .seek2 .ensures) _ (c .form-at .ensures))
+    (item-is (a .kind) (a .item) (s .result) (omega arith) (s .ensures) (omega arith) _ (to .seek2 .ensures) _ (c .form-at .ensures))
 
 pub describe-spec : {M : Type 1} → statement M
 describe-spec =

@@ -26,8 +26,9 @@ shared-slice-read-twelve-bit c =
 
 shared-slice-read-twelve-bit-2 : tie.Need-shared-slice-read-twelve-bit-2
 shared-slice-read-twelve-bit-2 c =
-    let s = c .before .before .before .before .before in
-    omega (arith, eqb→eq (length (now (s .args .bytes))) 2 (rw (c .before .before .enum-told2 .given .1) at (s .pre)))
+    let arm = c .before .before in
+    let s = arm .before .before .before in
+    omega (arith, eqb→eq (length (now (s .args .bytes))) 2 (rw (arm .enum-told2 .given .1) at (s .pre)))
 
 twelve-bit-requires : tie.Need-twelve-bit-requires
 twelve-bit-requires c κs = search needs
@@ -63,14 +64,16 @@ returns c = rw (c .before .enum-told .given .1) (c .count .ensures)
 
 returns-2 : tie.Need-returns-2
 returns-2 c =
-    let told = c .before .before .before .enum-told2 .given .1 in
-    let s = c .before .before .before .before .before .before in
+    let arm = c .before .before .before in
+    let told = arm .enum-told2 .given .1 in
+    let s = arm .before .before .before in
     rw (told, spelled (now (s .args .bytes)) 2 (eqb→eq _ 2 (rw told at (s .pre)))) (c .twelve-bit .ensures)
 
 returns-3 : tie.Need-returns-3
 returns-3 c =
-    let told = c .before .before .enum-told3 .given .1 in
-    let s = c .before .before .before .before .before in
+    let arm = c .before .before in
+    let told = arm .enum-told3 .given .1 in
+    let s = arm .before .before .before in
     rw told (flags-read (now (s .args .bytes)) _ (rw told at (s .pre)) (c .flags .ensures))
 
 returns-4 : tie.Need-returns-4

@@ -54,18 +54,22 @@ loop-less c = omega arith
 
 loop-again : tie.Need-loop-again Inv-loop μ-loop
 loop-again c =
-    let l = c .before .before .before .before .loop in
-    let a = c .before .before .before .before .before .args in
-    upper (a .kind) (a .number) (l .low) (l .high) (middle (c .before)) (omega arith) (l .inv) (omega arith) (omega arith) (omega (arith, here (c .before)))
+    let looked = c .before in
+    let turn = looked .before .before .before in
+    let l = turn .loop in
+    let a = turn .before .args in
+    upper (a .kind) (a .number) (l .low) (l .high) (middle looked) (omega arith) (l .inv) (omega arith) (omega arith) (omega (arith, here looked))
 
 loop-less-2 : tie.Need-loop-less-2 Inv-loop μ-loop
 loop-less-2 c = omega arith
 
 loop-again-2 : tie.Need-loop-again-2 Inv-loop μ-loop
 loop-again-2 c =
-    let l = c .before .before .before .before .loop in
-    let a = c .before .before .before .before .before .args in
-    lower (a .kind) (a .number) (l .low) (l .high) (middle (c .before)) (omega arith) (l .inv) (omega arith) (omega arith) (omega (arith, here (c .before)))
+    let looked = c .before in
+    let turn = looked .before .before .before in
+    let l = turn .loop in
+    let a = turn .before .args in
+    lower (a .kind) (a .number) (l .low) (l .high) (middle looked) (omega arith) (l .inv) (omega arith) (omega arith) (omega (arith, here looked))
 
 returns : tie.Need-returns Inv-loop μ-loop
 returns c =
