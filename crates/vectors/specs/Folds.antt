@@ -1,13 +1,9 @@
--- Numbers and sums of bytes. Definitions only.
+-- Sums of bytes. Definitions only.
 use mathlib.Core.Bool.{Bool, true, not}
 use mathlib.Core.List.{List, [], _∷_}
-use Prim.Native.Nat.{ℕ, _+_, _*_, _%_, _^_, min}
+use Prim.Native.Nat.{ℕ, _+_, _*_, _%_, min}
 use lib.Dec.{eqb}
 use Rattle.base.specs.Lists.{one}
-
--- a number with one byte more at its end, modulo 2^64
-abbrev pub joined : ℕ → ℕ → ℕ
-joined n b = n % 2 ^ 56 * 256 + b
 
 -- a checksum with one number more
 abbrev pub mixed : ℕ → ℕ → ℕ

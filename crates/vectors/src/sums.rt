@@ -3,30 +3,16 @@ ghost use mathlib.Core.Path.{_≡_};
 ghost use mathlib.Core.List.{foldl};
 ghost use lib.ListN.{drop};
 ghost use Rattle.base.specs.Lists.{countBy, one};
-ghost use Rattle.vectors.specs.Folds.{joined, mixed, isOther, isOtherFirst, differ, capped};
+ghost use Rattle.base.specs.Numbers.{NumberOf};
+ghost use Rattle.vectors.specs.Folds.{mixed, isOther, isOtherFirst, differ, capped};
 
 const MODULUS: u64 = 4_294_967_291;
 
-const P56: u64 = 0x100_0000_0000_0000;
-
 // The number that the bytes are, the first one highest. Of more than eight the last eight count.
 pub fn number(bytes: &[u8]) -> u64
-    ensures { λ r. ⌜ r ≡ foldl joined 0 (now (bytes .entry)) ⌝ }
+    ensures { λ r. ⌜ NumberOf (now (bytes .entry)) r ⌝ }
 {
-    let mut n: u64 = 0;
-    let mut i: usize = 0;
-    while i < bytes.len() {
-        n = join(n, bytes[i]);
-        i += 1;
-    }
-    n
-}
-
-// A number with one byte more at its end.
-fn join(n: u64, b: u8) -> u64
-    ensures { λ r. ⌜ r ≡ joined n b ⌝ }
-{
-    (n % P56) * 256 + (b as u64)
+    base::big_endian::read(bytes)
 }
 
 pub fn checksum(bytes: &[u8]) -> u64
