@@ -17,7 +17,7 @@ use Rattle.subcom.specs.declared.reading.Reading.the-variants.{Count, Flags, Nu
 use Rattle.subcom.specs.Columns.{kindRefusal, columnKind}
 use Rattle.subcom.specs.ItemTable.{countRefusal, counted, itemRefusal, described}
 use Rattle.subcom.specs.Readings.{readRefusal, reading}
-use Rattle.bridge.specs.Crossing.{flag}
+use Rattle.base.specs.Lists.{one as flag}
 
 -- ---- what a place holds afterwards
 

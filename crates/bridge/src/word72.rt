@@ -4,7 +4,7 @@ ghost use Rattle.subcom.specs.Parts.{partRefusal};
 ghost use Rattle.subcom.specs.Promise.{GatherPromise};
 ghost use Rattle.bridge.specs.Word72.{formNumber, readingOr, KindCrossed, CountCrossed, DescribeCrossed, ReadCrossed};
 ghost use Rattle.subcom.specs.declared.reading.Reading.the-variants.{Flags};
-use crate::flag;
+use crossing::flag;
 use subcom::ColumnKind;
 use subcom::Description;
 use subcom::EightFlags;
