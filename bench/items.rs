@@ -1,10 +1,9 @@
 // Word 72 once more, from paper 01 and its tables 17 to 20: gathering, kinds, every item of every kind and what it reads as; and the proved
 // entries held to it. An answer is what is given, or the number of the refusal.
 
-use std::fmt::Debug;
-
 use crate::bridge;
 use crate::codecs::{read_number, read_time, write_time, TICKS_A_DAY};
+use crate::entry::same;
 use crate::stream::Random;
 use crate::tally::{AREA, FRAME};
 
@@ -127,17 +126,6 @@ impl Met {
         let refused: Vec<String> =
             self.refused.iter().enumerate().filter(|(_, n)| **n != 0).map(|(number, n)| format!("{number}: {n}")).collect();
         println!("word 72: columns of kinds 0 to 3: {:?}; readings: {}; refused: {}", self.kinds, readings.join(", "), refused.join(", "));
-    }
-}
-
-// An entry's number and what it left, against what was wanted: what is given, or what was lent.
-fn same<T: PartialEq + Debug>(entry: &str, wanted: Result<T, u8>, lent: T, number: u8, left: T) -> Result<(), String> {
-    let refusal = wanted.as_ref().err().copied().unwrap_or(0);
-    let wanted = wanted.unwrap_or(lent);
-    if number == refusal && left == wanted {
-        Ok(())
-    } else {
-        Err(format!("{entry} answers {number} and leaves {left:?}, not {refusal} and {wanted:?}"))
     }
 }
 

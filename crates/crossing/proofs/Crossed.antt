@@ -13,8 +13,8 @@ use Rattle.labelling.specs.Machine.{fresh}
 use Rattle.labelling.specs.Calls.{Answer, answer, takeRefusal}
 use Rattle.labelling.proofs.CallLaws.{refused-answer}
 use Rattle.reader.specs.declared.Taken.{Taken}
-use Rattle.reader.specs.Shapes.{TakePromise, answerOf}
-use Rattle.crossing.specs.Crossing.{isTally, numbersOf, Lent, lent, callOf, written, takeRefused, takeLeaves, TakeCrossed, FreshCrossed}
+use Rattle.reader.specs.Shapes.{TakePromise, callOf as readerCall}
+use Rattle.crossing.specs.Crossing.{isTally, tallyOf, numbersOf, Lent, lent, callOf, written, takeRefused, takeLeaves, TakeCrossed, FreshCrossed}
 use Rattle.crossing.proofs.Numbers.{layout}
 
 pub fresh-crossed : (t : Tally) → t ≡ fresh → FreshCrossed (numbersOf t) (t .frame)
@@ -34,25 +34,31 @@ module _ (l : Lent) (piece : List ℕ) where
   unfolding takeRefused
   no-tally e = record { refusal-is = rw e; left-is = left-as-lent (rw e (λ z. omega arith)) }
 
-  module _ (e : isTally (l .numbers) ≡ true) (r : Taken) (area : List ℕ) (p : TakePromise (callOf l piece) r area) where
-    -- the reader's refusal is the call's
+  -- the reader's call of the tally that the numbers are
+  module _ (e : isTally (l .numbers) ≡ true) (t : Tally) (is-t : t ≡ tallyOf (l .numbers) (l .frame)) (r : Taken) (area : List ℕ)
+      (p : TakePromise (readerCall t piece (l .area)) r area) where
+    promised : TakePromise (callOf l piece) r area
+    promised = rw is-t at p
+
     refusal-crossed : r .refusal ≡ takeRefused l piece
     unfolding takeRefused
-    refusal-crossed = rw e (p .refusal-is)
+    refusal-crossed = rw e (promised .refusal-is)
 
-    pub accepted-crossed : r .refusal ≡ 0 → TakeCrossed l piece 0 (written (answerOf r area))
-    accepted-crossed z = record {
+    -- accepted: the numbers, the frame and the flag that are written are the answer's
+    pub accepted-crossed : (numbers frame : List ℕ) (complete : ℕ) → numbers ≡ numbersOf (r .tally) → frame ≡ r .tally .frame
+        → complete ≡ one (r .complete) → r .refusal ≡ 0 → TakeCrossed l piece 0 (lent numbers frame area (r .taken ∷ complete ∷ []))
+    accepted-crossed numbers frame complete n f b z = record {
       refusal-is = sym z ∙ refusal-crossed;
-      left-is = ap written (p .answer-is) ∙ left-written (sym refusal-crossed ∙ z);
+      left-is = rw (n, f, b) (ap written (promised .answer-is) ∙ left-written (sym refusal-crossed ∙ z));
     }
 
     -- the area of a refused call
     area-kept : (n : ℕ) → takeRefusal (callOf l piece) ≡ n → (n ≡ 0 → ⊥) → area ≡ l .area
     area-kept zero q h = absurd (h refl)
-    area-kept (suc n) q h = ap (λ (a : Answer). a .area) (p .answer-is ∙ refused-answer byteVote (callOf l piece) n q)
+    area-kept (suc n) q h = ap (λ (a : Answer). a .area) (promised .answer-is ∙ refused-answer byteVote (callOf l piece) n q)
 
     pub refused-crossed : (r .refusal ≡ 0 → ⊥) → TakeCrossed l piece (r .refusal) (lent (l .numbers) (l .frame) area (l .answer))
     refused-crossed h = record {
       refusal-is = refusal-crossed;
-      left-is = rw (area-kept (takeRefusal (callOf l piece)) refl (λ z. h (p .refusal-is ∙ z))) (left-as-lent (λ z. h (refusal-crossed ∙ z)));
+      left-is = rw (area-kept (takeRefusal (callOf l piece)) refl (λ z. h (promised .refusal-is ∙ z))) (left-as-lent (λ z. h (refusal-crossed ∙ z)));
     }

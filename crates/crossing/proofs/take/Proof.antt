@@ -29,14 +29,8 @@ returns-2 c =
     let called = c .before .before .before .before in
     let made = called .before .before in
     let tested = made .before .before .before in
-    refused-crossed
-    _
-    _
-    (sym (tested .before .is-tally .ensures) ∙ not-false _ (tested .if1 .left))
-    _
-    _
-    (rw (made .tally-of .ensures) at (called .take .ensures))
-    (c .if2 .taken)
+    let is-tally = sym (tested .before .is-tally .ensures) ∙ not-false _ (tested .if1 .left) in
+    refused-crossed _ _ is-tally _ (made .tally-of .ensures) _ _ (called .take .ensures) (c .if2 .taken)
 
 put-tally-requires : tie.Need-put-tally-requires
 put-tally-requires c κs = search needs
@@ -54,15 +48,24 @@ returns-3 c =
     let called = accepted .before .before .before .before in
     let made = called .before .before in
     let tested = made .before .before .before in
-    rw (c .before .flag .ensures, put .put-tally .ensures .0, put .put-tally .ensures .1)
-    (accepted-crossed
+    let is-tally = sym (tested .before .is-tally .ensures) ∙ not-false _ (tested .if1 .left) in
+    let written = put .put-tally .ensures in
+    accepted-crossed
     _
     _
-    (sym (tested .before .is-tally .ensures) ∙ not-false _ (tested .if1 .left))
+    is-tally
+    _
+    (made .tally-of .ensures)
     _
     _
-    (rw (made .tally-of .ensures) at (called .take .ensures))
-    (accepted .if2 .left))
+    (called .take .ensures)
+    _
+    _
+    _
+    (written .0)
+    (written .1)
+    (c .before .flag .ensures)
+    (accepted .if2 .left)
 
 pub take-spec : {M : Type 1} → statement M
 take-spec =
