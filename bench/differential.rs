@@ -27,6 +27,9 @@ use tally::{Tally, AREA};
 // One stream in so many is long enough for a major frame.
 const RARE: usize = 40;
 
+// Of so many streams each case is met.
+const MANY: u64 = 2000;
+
 fn main() {
     let args: Vec<Option<u64>> = env::args().skip(1).map(|a| a.parse().ok()).collect();
     match args[..] {
@@ -51,7 +54,7 @@ fn run(streams: u64, seed: u64) -> bool {
             failed += 1;
         }
     }
-    seen.print();
+    failed += seen.print(streams >= MANY);
     println!("{streams} streams from seed {seed}, {failed} failed, {:.1} s", started.elapsed().as_secs_f64());
     failed != 0
 }
@@ -93,18 +96,37 @@ impl Seen {
         }
     }
 
-    fn print(&self) {
-        const NAMES: [&str; 14] = [
+    // The cases and how often each was met.
+    fn cases(&self) -> [(&str, Vec<(&str, u64)>); 3] {
+        const ENDED_IN: [&str; 14] = [
             "stray", "split", "open", "hunting", "match", "good", "damaged", "unsynced", "placed", "hole", "majors", "broken", "loose",
             "building",
         ];
+        let calls = vec![
+            ("paid", self.paid),
+            ("to exactly 2^40 bytes", self.at_limit),
+            ("refused 1", self.refused[1]),
+            ("so for numbers that are no tally's", self.no_tally),
+            ("refused 2", self.refused[2]),
+            ("refused 3", self.refused[3]),
+        ];
+        let streams = ENDED_IN.iter().copied().zip(self.ended_in).collect();
+        [("calls", calls), ("streams that ended with some", streams), ("word 72", self.word72.cases())]
+    }
+
+    // Prints how often each case was met; how many never were, where all should have been.
+    fn print(&self, all: bool) -> u64 {
         println!("{} bytes in {} calls; tally and area compared after {} of them", self.bytes, self.calls, self.compared);
-        println!("{} major frames paid; {} calls to exactly 2^40 bytes", self.paid, self.at_limit);
-        let [_, not_in_order, length, too_many] = self.refused;
-        println!("refused calls: 1: {not_in_order} ({} of them no tally's numbers), 2: {length}, 3: {too_many}", self.no_tally);
-        let ended: Vec<String> = NAMES.iter().zip(self.ended_in).map(|(name, n)| format!("{name} {n}")).collect();
-        println!("streams that ended with some: {}", ended.join(", "));
-        self.word72.print();
+        let mut unmet = 0;
+        for (title, cases) in self.cases() {
+            let listed: Vec<String> = cases.iter().map(|(name, n)| format!("{name} {n}")).collect();
+            println!("{title}: {}", listed.join(", "));
+            for (name, _) in cases.iter().filter(|(_, n)| all && *n == 0) {
+                println!("FAILED: {title}: {name} was never met");
+                unmet += 1;
+            }
+        }
+        unmet
     }
 }
 

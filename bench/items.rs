@@ -120,12 +120,16 @@ pub struct Met {
 }
 
 impl Met {
-    pub fn print(&self) {
-        const NAMES: [&str; 6] = ["count", "", "flags", "number", "time", "fill"];
-        let readings: Vec<String> = NAMES.iter().zip(self.readings).filter(|(_, n)| *n != 0).map(|(name, n)| format!("{name} {n}")).collect();
-        let refused: Vec<String> =
-            self.refused.iter().enumerate().filter(|(_, n)| **n != 0).map(|(number, n)| format!("{number}: {n}")).collect();
-        println!("word 72: columns of kinds 0 to 3: {:?}; readings: {}; refused: {}", self.kinds, readings.join(", "), refused.join(", "));
+    // The cases and how often each was met. No item reads as a 12-bit one.
+    pub fn cases(&self) -> Vec<(&'static str, u64)> {
+        const KINDS: [&str; 4] = ["kind 0", "kind 1", "kind 2", "kind 3"];
+        const FORMS: [(&str, Form); 5] = [("counts", Count), ("flags", Flags), ("numbers", Number), ("times", Time), ("fill", Fill)];
+        const REFUSALS: [(&str, usize); 6] =
+            [("refused 2", 2), ("refused 6", 6), ("refused 7", 7), ("refused 8", 8), ("refused 9", 9), ("refused 10", 10)];
+        let kinds = KINDS.iter().copied().zip(self.kinds);
+        let readings = FORMS.iter().map(|&(name, form)| (name, self.readings[form as usize]));
+        let refused = REFUSALS.iter().map(|&(name, number)| (name, self.refused[number]));
+        kinds.chain(readings).chain(refused).collect()
     }
 }
 

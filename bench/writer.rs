@@ -6,10 +6,10 @@ use crate::stream::{self, Random};
 use crate::tally::{FRAME, FRAME_SYNC, NUMBER_PLACE};
 
 fn lead_in(spacing: u64, out: usize) -> Result<Vec<u8>, u8> {
-    let mut bytes = Vec::new();
     if spacing > 60 {
         return Err(4);
     }
+    let mut bytes = Vec::new();
     stream::put_lead_in(&mut bytes, spacing as usize);
     if out == bytes.len() { Ok(bytes) } else { Err(2) }
 }
@@ -25,9 +25,7 @@ fn minor_frame(spacing: u64, frame: &[u8], out: usize) -> Result<Vec<u8>, u8> {
         return Err(5);
     }
     let mut bytes = Vec::new();
-    for &word in frame {
-        stream::put_word(&mut bytes, word, spacing as usize);
-    }
+    stream::put_words(&mut bytes, frame, spacing as usize);
     Ok(bytes)
 }
 
