@@ -19,12 +19,11 @@ cp target/staticlib/libbridge.a "$work/other"
 
 failed=0
 for file in samples/reel.pcd "$work"/* "$@"; do
-    bin/pcd-tally "$file" >"$work.wanted"
-    if ! target/examples/tally "$file" | cmp - "$work.wanted"; then
+    bin/pcd-tally "$file" >"$work/wanted"
+    if ! target/examples/tally "$file" | cmp - "$work/wanted"; then
         echo "the tally of $file differs"
         failed=1
     fi
 done
-rm -f "$work.wanted"
 [ "$failed" -eq 0 ] && echo 'the example in C prints the tallies that bin/pcd-tally prints'
 exit "$failed"
