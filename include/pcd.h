@@ -4,8 +4,8 @@
  *     rt staticlib bridge                                  target/staticlib/libbridge.a
  *     cc -I include program.c target/staticlib/libbridge.a
  *
- * Every function answers the number of its refusal, 0 for none. What a refusal leaves: all lent memory as it was. Where several lines
- * of the table apply, the first in the table's order is given, but 4 goes before 2 where a length depends on the spacing.
+ * Every function but pcd_fresh, which refuses nothing, returns the number of its refusal, 0 for none. A refused call leaves all lent memory
+ * as it was. Where several refusals apply, the lowest number is given; but 4 goes before 2 where a length depends on the spacing.
  *
  * What a caller owes: each pointer leads to as many elements as its array or its count says, none is NULL (with a count of 0 too), and
  * no two of them overlap. Everything else is tested. Nothing is kept between calls but what the caller lends.
@@ -76,7 +76,7 @@ enum {
 /* Writes a fresh tally: it hunts, and is otherwise 0. */
 void pcd_fresh(uint64_t numbers[PCD_NUMBERS], uint8_t frame[PCD_MINOR_FRAME]);
 
-/* Takes a piece of the unpacked stream, of any length. The area has PCD_MAJOR_FRAME bytes, and stays unwritten between calls.
+/* Takes a piece of the unpacked stream, of any length. The area has PCD_MAJOR_FRAME bytes, in which the caller does not write between calls.
  *
  * Accepted: the tally moves on; each minor frame of a run is put at 128 times its number in the area; answer[0] is how many bytes were
  * taken, answer[1] whether a major frame is complete, 1 or 0. Where one is, the area holds it, the call stopped just after its last byte,
