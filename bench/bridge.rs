@@ -1,8 +1,6 @@
 // The proved library, through libbridge.a. The only unsafe code here: each lent slice crosses as its pointer and its length.
 
-use crate::tally::{Tally, FRAME};
-
-const NUMBERS: usize = 20;
+use crate::tally::{Tally, FRAME, NUMBERS};
 
 extern "C" {
     fn pcd_fresh(numbers: *mut [u64; NUMBERS], frame: *mut [u8; FRAME]);
@@ -36,6 +34,17 @@ pub struct State {
     pub frame: [u8; FRAME],
 }
 
+impl State {
+    pub fn of(t: &Tally) -> State {
+        State { numbers: t.numbers(), frame: t.frame }
+    }
+
+    // None where the numbers are no tally's.
+    pub fn tally(&self) -> Option<Tally> {
+        Tally::of_numbers(&self.numbers, &self.frame)
+    }
+}
+
 // A refused call leaves u64::MAX in the last two.
 pub struct Taken {
     pub refusal: u8,
@@ -63,33 +72,6 @@ pub fn take(s: &mut State, piece: &[u8], area: &mut [u8]) -> Taken {
         )
     };
     Taken { refusal, taken: answer[0], complete: answer[1] }
-}
-
-// The numbers in the order in which they cross.
-pub fn state_of(t: &Tally) -> State {
-    let numbers = [
-        t.bytes,
-        t.fill,
-        t.stray,
-        t.voted,
-        t.split,
-        t.open,
-        t.first as u64,
-        t.second as u64,
-        t.hunted,
-        t.good,
-        t.damaged,
-        t.unsynced,
-        t.placed,
-        t.hunting as u64,
-        t.matched,
-        t.erasure as u64,
-        t.majors,
-        t.broken,
-        t.loose,
-        t.building,
-    ];
-    State { numbers, frame: t.frame }
 }
 
 pub fn write_lead_in(spacing: u64, out: &mut [u8]) -> u8 {

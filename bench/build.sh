@@ -1,7 +1,17 @@
-# build NAME: proves the crate bridge, makes its archive, and links bench/NAME.rs with it to target/bench/NAME. For the scripts beside it.
-# Any rustc from 1.63 on will do; a warning does not stop it, since one rustc warns of other things than the next.
-build() {
+# For the scripts beside it and in examples/, at the repository's root.
+
+# archive: proves the crate bridge and makes target/staticlib/libbridge.a, unless one stands there that is newer than every crate.
+archive() {
+    local archive=target/staticlib/libbridge.a
+    [ -f "$archive" ] && [ -z "$(find crates crates.txt -newer "$archive" -print -quit)" ] && return
     mkdir -p target/bench
     rt staticlib bridge >target/bench/staticlib.log 2>&1 || { cat target/bench/staticlib.log >&2; return 1; }
+}
+
+# build NAME: links bench/NAME.rs with the archive to target/bench/NAME. Any rustc from 1.63 on will do; a warning does not stop it, since one
+# rustc warns of other things than the next.
+build() {
+    archive
+    mkdir -p target/bench
     rustc --edition 2021 -O -o "target/bench/$1" "bench/$1.rs" -C link-arg=target/staticlib/libbridge.a
 }

@@ -1,37 +1,11 @@
-// The writer and the codecs of word 72's times and numbers once more, from paper 01, and the proved ones held to them. An answer is the bytes or the value, or
-// the number of the refusal.
+// The codecs of word 72's times and numbers once more, from paper 01, and the proved ones held to them. An answer is the bytes or the value,
+// or the number of the refusal.
 
 use crate::bridge;
-use crate::stream::{self, Random};
-use crate::tally::{FRAME, FRAME_SYNC, NUMBER_PLACE};
+use crate::entry::{lent, same};
+use crate::stream::Random;
 
 pub const TICKS_A_DAY: u64 = 24 * 60 * 60 * 1000 * 16;
-
-fn lead_in(spacing: u64, out: usize) -> Result<Vec<u8>, u8> {
-    let mut bytes = Vec::new();
-    if spacing > 60 {
-        return Err(4);
-    }
-    stream::put_lead_in(&mut bytes, spacing as usize);
-    if out == bytes.len() { Ok(bytes) } else { Err(2) }
-}
-
-fn minor_frame(spacing: u64, frame: &[u8], out: usize) -> Result<Vec<u8>, u8> {
-    if spacing > 60 {
-        return Err(4);
-    }
-    if frame.len() != FRAME || out != FRAME * (4 + spacing as usize) {
-        return Err(2);
-    }
-    if frame[..3] != FRAME_SYNC || frame[NUMBER_PLACE] > 127 {
-        return Err(5);
-    }
-    let mut bytes = Vec::new();
-    for &word in frame {
-        stream::put_word(&mut bytes, word, spacing as usize);
-    }
-    Ok(bytes)
-}
 
 // Spacecraft and instant.
 pub fn read_time(bytes: &[u8]) -> Result<[u64; 2], u8> {
@@ -110,47 +84,6 @@ fn write_number(x: f64, out: usize) -> Result<Vec<u8>, u8> {
     Err(11)
 }
 
-// A writer's answer: the number of the refusal, and the lent bytes afterwards.
-fn written(wanted: Result<Vec<u8>, u8>, lent: &[u8], number: u8, left: &[u8], what: &str) -> Result<(), String> {
-    let (refusal, bytes) = match wanted {
-        Ok(bytes) => (0, bytes),
-        Err(refusal) => (refusal, lent.to_vec()),
-    };
-    if number == refusal && left == bytes {
-        Ok(())
-    } else {
-        Err(format!("{what}: answers {number}, not {refusal}; leaves {left:02X?}, not {bytes:02X?}"))
-    }
-}
-
-fn lent(r: &mut Random, right: usize) -> Vec<u8> {
-    let n = if r.one_in(8) { r.below(2 * right + 2) } else { right };
-    let mut bytes = vec![0; n];
-    r.fill(&mut bytes);
-    bytes
-}
-
-fn write_trials(r: &mut Random) -> Result<(), String> {
-    let spacing = if r.one_in(8) { 50 + r.below(20) as u64 } else { r.below(61) as u64 };
-    let old = lent(r, 3 * (4 + spacing as usize));
-    let mut new = old.clone();
-    let number = bridge::write_lead_in(spacing, &mut new);
-    written(lead_in(spacing, old.len()), &old, number, &new, "write_lead_in")?;
-
-    let number = r.below(140) as u8;
-    let mut frame = stream::frame(r, number, stream::Data::Telling).to_vec();
-    if r.one_in(8) {
-        frame[r.below(3)] = r.telling_byte();
-    }
-    if r.one_in(16) {
-        frame.resize(r.below(260), 0);
-    }
-    let old = lent(r, FRAME * (4 + spacing as usize));
-    let mut new = old.clone();
-    let number = bridge::write_minor_frame(spacing, &frame, &mut new);
-    written(minor_frame(spacing, &frame, old.len()), &old, number, &new, "write_minor_frame")
-}
-
 fn time_trials(r: &mut Random) -> Result<(), String> {
     const EDGES: [u64; 6] = [0, TICKS_A_DAY - 1, TICKS_A_DAY, 367 * TICKS_A_DAY - 1, 367 * TICKS_A_DAY, u64::MAX];
     let instant = if r.one_in(6) { EDGES[r.below(6)] } else { r.next() % (368 * TICKS_A_DAY) };
@@ -158,7 +91,7 @@ fn time_trials(r: &mut Random) -> Result<(), String> {
     let old = lent(r, 7);
     let mut new = old.clone();
     let number = bridge::encode_time(spacecraft, instant, &mut new);
-    written(write_time(spacecraft, instant, old.len()), &old, number, &new, "encode_time")?;
+    same("encode_time", write_time(spacecraft, instant, old.len()), old, number, new.clone())?;
 
     if r.one_in(2) && !new.is_empty() {
         let at = r.below(new.len());
@@ -167,12 +100,7 @@ fn time_trials(r: &mut Random) -> Result<(), String> {
     let before = [r.next(), r.next()];
     let mut out = before;
     let number = bridge::decode_time(&new, &mut out);
-    let wanted = read_time(&new);
-    if (number, out) == (wanted.err().unwrap_or(0), wanted.unwrap_or(before)) {
-        Ok(())
-    } else {
-        Err(format!("decode_time of {new:02X?}: answers {number} and {out:?}, not {wanted:?}"))
-    }
+    same("decode_time", read_time(&new), before, number, out).map_err(|what| format!("{what}, for {new:02X?}"))
 }
 
 fn number_trials(r: &mut Random) -> Result<(), String> {
@@ -180,13 +108,11 @@ fn number_trials(r: &mut Random) -> Result<(), String> {
     if r.one_in(4) {
         bytes.iter_mut().for_each(|b| *b = [0, 0x40, 0x80, 0xBF, 0xC0, 0xFF][r.below(6)]);
     }
-    let before = 0.125;
+    let before = 0.125f64;
     let mut x = before;
     let number = bridge::decode_number(&bytes, &mut x);
-    let wanted = read_number(&bytes);
-    if (number, x.to_bits()) != (wanted.err().unwrap_or(0), wanted.unwrap_or(before).to_bits()) {
-        return Err(format!("decode_number of {bytes:02X?}: answers {number} and {x}, not {wanted:?}"));
-    }
+    same("decode_number", read_number(&bytes).map(f64::to_bits), before.to_bits(), number, x.to_bits())
+        .map_err(|what| format!("{what}, for {bytes:02X?}"))?;
 
     const SPECIAL: [f64; 6] = [0.0, -0.0, f64::INFINITY, f64::NEG_INFINITY, f64::NAN, f64::MIN_POSITIVE];
     let x = match r.below(6) {
@@ -200,11 +126,10 @@ fn number_trials(r: &mut Random) -> Result<(), String> {
     let old = lent(r, 6);
     let mut new = old.clone();
     let number = bridge::encode_number(x, &mut new);
-    written(write_number(x, old.len()), &old, number, &new, &format!("encode_number of {x:e}"))
+    same("encode_number", write_number(x, old.len()), old, number, new).map_err(|what| format!("{what}, for {x:e}"))
 }
 
 pub fn trials(r: &mut Random) -> Result<(), String> {
-    write_trials(r)?;
     for _ in 0..8 {
         time_trials(r)?;
         number_trials(r)?;

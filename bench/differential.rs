@@ -5,12 +5,15 @@
 mod bridge;
 mod bytewise;
 mod codecs;
+mod disorder;
+mod entry;
 mod items;
 mod nominal;
 mod plain;
 mod stream;
 mod tally;
 mod tuned;
+mod writer;
 
 use std::env;
 use std::process::exit;
@@ -23,6 +26,9 @@ use tally::{Tally, AREA};
 
 // One stream in so many is long enough for a major frame.
 const RARE: usize = 40;
+
+// Of so many streams each case is met.
+const MANY: u64 = 2000;
 
 fn main() {
     let args: Vec<Option<u64>> = env::args().skip(1).map(|a| a.parse().ok()).collect();
@@ -48,7 +54,7 @@ fn run(streams: u64, seed: u64) -> bool {
             failed += 1;
         }
     }
-    seen.print();
+    failed += seen.print(streams >= MANY);
     println!("{streams} streams from seed {seed}, {failed} failed, {:.1} s", started.elapsed().as_secs_f64());
     failed != 0
 }
@@ -62,6 +68,7 @@ struct Seen {
     paid: u64,
     at_limit: u64,
     refused: [u64; 4],
+    no_tally: u64,
     ended_in: [u64; 14],
     word72: items::Met,
 }
@@ -89,17 +96,37 @@ impl Seen {
         }
     }
 
-    fn print(&self) {
-        const NAMES: [&str; 14] = [
+    // The cases and how often each was met.
+    fn cases(&self) -> [(&str, Vec<(&str, u64)>); 3] {
+        const ENDED_IN: [&str; 14] = [
             "stray", "split", "open", "hunting", "match", "good", "damaged", "unsynced", "placed", "hole", "majors", "broken", "loose",
             "building",
         ];
+        let calls = vec![
+            ("paid", self.paid),
+            ("to exactly 2^40 bytes", self.at_limit),
+            ("refused 1", self.refused[1]),
+            ("so for numbers that are no tally's", self.no_tally),
+            ("refused 2", self.refused[2]),
+            ("refused 3", self.refused[3]),
+        ];
+        let streams = ENDED_IN.iter().copied().zip(self.ended_in).collect();
+        [("calls", calls), ("streams that ended with some", streams), ("word 72", self.word72.cases())]
+    }
+
+    // Prints how often each case was met; how many never were, where all should have been.
+    fn print(&self, all: bool) -> u64 {
         println!("{} bytes in {} calls; tally and area compared after {} of them", self.bytes, self.calls, self.compared);
-        println!("{} major frames paid; {} calls to exactly 2^40 bytes", self.paid, self.at_limit);
-        println!("refused calls: 1: {}, 2: {}, 3: {}", self.refused[1], self.refused[2], self.refused[3]);
-        let ended: Vec<String> = NAMES.iter().zip(self.ended_in).map(|(name, n)| format!("{name} {n}")).collect();
-        println!("streams that ended with some: {}", ended.join(", "));
-        self.word72.print();
+        let mut unmet = 0;
+        for (title, cases) in self.cases() {
+            let listed: Vec<String> = cases.iter().map(|(name, n)| format!("{name} {n}")).collect();
+            println!("{title}: {}", listed.join(", "));
+            for (name, _) in cases.iter().filter(|(_, n)| all && *n == 0) {
+                println!("FAILED: {title}: {name} was never met");
+                unmet += 1;
+            }
+        }
+        unmet
     }
 }
 
@@ -139,6 +166,7 @@ impl Trial {
         self.streaming("bytewise", bytewise::take)?;
         self.streaming("tuned", tuned::take)?;
         self.streaming("nominal", nominal::take)?;
+        writer::trials(&mut self.r)?;
         codecs::trials(&mut self.r)?;
         items::trials(&mut self.r, &mut seen.word72)
     }
@@ -146,7 +174,7 @@ impl Trial {
     // The proved reader, in calls cut at random, with refused calls among them.
     fn proved(&mut self, seen: &mut Seen) -> Result<(), String> {
         let mut s = bridge::fresh();
-        held(s == bridge::state_of(&Tally::fresh()), "a fresh tally", 0)?;
+        held(s == State::of(&Tally::fresh()), "a fresh tally", 0)?;
         let mut area = self.start.clone();
         let (mut at, mut paid) = (0, 0);
         let longest = self.longest_piece();
@@ -204,7 +232,7 @@ impl Trial {
 
     fn compare(&self, s: &State, area: &[u8], at: usize) -> Result<(), String> {
         let reading = plain::read(&self.bytes[..at]);
-        let wanted = bridge::state_of(&reading.tally);
+        let wanted = State::of(&reading.tally);
         if *s != wanted {
             return Err(format!("the tally differs after {at} bytes:\n  has   {:?}\n  wants {:?}", s.numbers, wanted.numbers));
         }
@@ -216,26 +244,33 @@ impl Trial {
     // A call that must be refused: nothing is taken, and the tally and an area of any length stay.
     fn refused_call(&mut self, s: &State, at: usize, seen: &mut Seen) -> Result<(), String> {
         let n = self.r.below(40).min(self.bytes.len() - at);
-        let mut t = tally_of(s);
+        let mut before = *s;
         let mut length = AREA;
-        let kinds = 1 + self.r.below(7);
+        let kinds = 1 + self.r.below(15);
         if kinds & 1 != 0 {
-            put_out_of_order(&mut self.r, &mut t);
+            disorder::out_of_order(&mut self.r, &mut before);
         }
         if kinds & 2 != 0 {
             length = [0, 1, 128, AREA - 1, AREA + 1, 2 * AREA][self.r.below(6)];
         }
         if kinds & 4 != 0 {
-            fill_up_to(&mut t, LIMIT + self.r.below(3) as u64 - n as u64);
+            let mut t = tally_of(&before)?;
+            disorder::fill_up_to(&mut t, LIMIT + self.r.below(3) as u64 - n as u64);
+            before = State::of(&t);
         }
-        let number = plain::refusal(&t, n, length);
+        if kinds & 8 != 0 {
+            match self.r.below(8) {
+                0 => disorder::any_numbers(&mut self.r, &mut before),
+                _ => disorder::no_tally(&mut self.r, &mut before),
+            }
+        }
+        let tally = before.tally();
+        let number = plain::refusal(tally.as_ref(), n, length);
         if number == 0 {
             return Ok(());
         }
         seen.refused[number as usize] += 1;
-        let mut before = bridge::state_of(&t);
-        // What stands above a copy's byte is not looked at, and not cleared.
-        before.numbers[6] += 256 * self.r.below(3) as u64;
+        seen.no_tally += tally.is_none() as u64;
         let mut s = before;
         let mut area = vec![self.r.byte(); length];
         let kept = area.clone();
@@ -250,19 +285,19 @@ impl Trial {
     fn call_to_limit(&mut self, s: &State, area: &[u8], at: usize, paid: usize, seen: &mut Seen) -> Result<(), String> {
         let n = self.r.below(400).min(self.bytes.len() - at);
         let (taken, complete) = self.expected(at, n, paid);
-        let mut t = tally_of(s);
+        let mut t = tally_of(s)?;
         let more = LIMIT - n as u64 - t.bytes;
-        fill_up_to(&mut t, LIMIT - n as u64);
-        let mut s = bridge::state_of(&t);
+        disorder::fill_up_to(&mut t, LIMIT - n as u64);
+        let mut s = State::of(&t);
         let mut area = area.to_vec();
         let answer = bridge::take(&mut s, &self.bytes[at..at + n], &mut area);
         seen.at_limit += 1;
         held(answer.refusal == 0, "the refusal of a call to the limit", at)?;
         held((answer.taken, answer.complete) == (taken as u64, complete as u64), "the answer of a call to the limit", at)?;
-        let mut t = tally_of(&s);
+        let mut t = tally_of(&s)?;
         t.bytes -= more;
         t.fill -= more;
-        self.compare(&bridge::state_of(&t), &area, at + taken)
+        self.compare(&State::of(&t), &area, at + taken)
     }
 
     // A reader in Rust, in calls cut elsewhere.
@@ -282,99 +317,11 @@ impl Trial {
                 paid += 1;
             }
         }
-        self.compare(&bridge::state_of(&t), &area, at).map_err(|what| format!("{name}: {what}"))
+        self.compare(&State::of(&t), &area, at).map_err(|what| format!("{name}: {what}"))
     }
 }
 
-// The tally that crossed.
-fn tally_of(s: &State) -> Tally {
-    let n = &s.numbers;
-    Tally {
-        bytes: n[0],
-        fill: n[1],
-        stray: n[2],
-        voted: n[3],
-        split: n[4],
-        open: n[5],
-        first: n[6] as u8,
-        second: n[7] as u8,
-        hunted: n[8],
-        good: n[9],
-        damaged: n[10],
-        unsynced: n[11],
-        placed: n[12],
-        hunting: n[13] != 0,
-        matched: n[14],
-        erasure: n[15] != 0,
-        majors: n[16],
-        broken: n[17],
-        loose: n[18],
-        building: n[19],
-        frame: s.frame,
-    }
-}
-
-// Raises bytes and FILL alike, which keeps a tally's sums.
-fn fill_up_to(t: &mut Tally, bytes: u64) {
-    let more = bytes.wrapping_sub(t.bytes);
-    t.bytes = bytes;
-    t.fill = t.fill.wrapping_add(more);
-}
-
-// Changes a tally so that it is likely to be out of order, in ways that keep some of its sums too.
-fn put_out_of_order(r: &mut Random, t: &mut Tally) {
-    const HUGE: [u64; 5] = [LIMIT + 1, 1 << 62, 1 << 63, u64::MAX, u64::MAX - 3];
-    let huge = HUGE[r.below(HUGE.len())];
-    match r.below(12) {
-        0 => *any_number(r, t) += 1,
-        1 => *any_number(r, t) = huge,
-        2 => fill_up_to(t, huge),
-        3 => t.hunting = !t.hunting,
-        4 => t.erasure = !t.erasure,
-        5 => t.matched = r.below(5) as u64,
-        // Sums that hold modulo 2^64 only.
-        6 => t.voted = t.voted.wrapping_add(1 << 62),
-        7 => {
-            t.voted = t.voted.wrapping_add(1 << 62);
-            t.hunted = t.hunted.wrapping_add(1 << 62);
-        }
-        // Sums that hold, beyond the bound of one part.
-        8 => {
-            t.open += 4;
-            t.bytes += 4;
-        }
-        9 => {
-            t.placed += 128;
-            t.unsynced = t.unsynced.wrapping_sub(1);
-        }
-        10 => {
-            t.building += 128;
-            t.majors = t.majors.wrapping_sub(1);
-        }
-        _ => {
-            t.loose = t.loose.wrapping_sub(1);
-            t.building += 1;
-        }
-    }
-}
-
-fn any_number<'a>(r: &mut Random, t: &'a mut Tally) -> &'a mut u64 {
-    match r.below(17) {
-        0 => &mut t.bytes,
-        1 => &mut t.fill,
-        2 => &mut t.stray,
-        3 => &mut t.voted,
-        4 => &mut t.split,
-        5 => &mut t.open,
-        6 => &mut t.hunted,
-        7 => &mut t.good,
-        8 => &mut t.damaged,
-        9 => &mut t.unsynced,
-        10 => &mut t.placed,
-        11 => &mut t.matched,
-        12 => &mut t.majors,
-        13 => &mut t.broken,
-        14 => &mut t.loose,
-        _ => &mut t.building,
-    }
+// The tally that an accepted call left.
+fn tally_of(s: &State) -> Result<Tally, String> {
+    s.tally().ok_or_else(|| format!("numbers that are no tally's are left: {:?}", s.numbers))
 }

@@ -1,10 +1,9 @@
 // Word 72 once more, from paper 01 and its tables 17 to 20: gathering, kinds, every item of every kind and what it reads as; and the proved
 // entries held to it. An answer is what is given, or the number of the refusal.
 
-use std::fmt::Debug;
-
 use crate::bridge;
 use crate::codecs::{read_number, read_time, write_time, TICKS_A_DAY};
+use crate::entry::same;
 use crate::stream::Random;
 use crate::tally::{AREA, FRAME};
 
@@ -121,23 +120,16 @@ pub struct Met {
 }
 
 impl Met {
-    pub fn print(&self) {
-        const NAMES: [&str; 6] = ["count", "", "flags", "number", "time", "fill"];
-        let readings: Vec<String> = NAMES.iter().zip(self.readings).filter(|(_, n)| *n != 0).map(|(name, n)| format!("{name} {n}")).collect();
-        let refused: Vec<String> =
-            self.refused.iter().enumerate().filter(|(_, n)| **n != 0).map(|(number, n)| format!("{number}: {n}")).collect();
-        println!("word 72: columns of kinds 0 to 3: {:?}; readings: {}; refused: {}", self.kinds, readings.join(", "), refused.join(", "));
-    }
-}
-
-// An entry's number and what it left, against what was wanted: what is given, or what was lent.
-fn same<T: PartialEq + Debug>(entry: &str, wanted: Result<T, u8>, lent: T, number: u8, left: T) -> Result<(), String> {
-    let refusal = wanted.as_ref().err().copied().unwrap_or(0);
-    let wanted = wanted.unwrap_or(lent);
-    if number == refusal && left == wanted {
-        Ok(())
-    } else {
-        Err(format!("{entry} answers {number} and leaves {left:?}, not {refusal} and {wanted:?}"))
+    // The cases and how often each was met. No item reads as a 12-bit one.
+    pub fn cases(&self) -> Vec<(&'static str, u64)> {
+        const KINDS: [&str; 4] = ["kind 0", "kind 1", "kind 2", "kind 3"];
+        const FORMS: [(&str, Form); 5] = [("counts", Count), ("flags", Flags), ("numbers", Number), ("times", Time), ("fill", Fill)];
+        const REFUSALS: [(&str, usize); 6] =
+            [("refused 2", 2), ("refused 6", 6), ("refused 7", 7), ("refused 8", 8), ("refused 9", 9), ("refused 10", 10)];
+        let kinds = KINDS.iter().copied().zip(self.kinds);
+        let readings = FORMS.iter().map(|&(name, form)| (name, self.readings[form as usize]));
+        let refused = REFUSALS.iter().map(|&(name, number)| (name, self.refused[number]));
+        kinds.chain(readings).chain(refused).collect()
     }
 }
 

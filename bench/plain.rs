@@ -258,15 +258,18 @@ pub fn in_order(t: &Tally) -> bool {
         && (t.placed != 0 || !t.erasure)
 }
 
-// The refusal of a call of `take`, in the order of paper 01's table.
-pub fn refusal(t: &Tally, piece: usize, area: usize) -> u8 {
-    if !in_order(t) {
-        1
-    } else if area != AREA {
-        2
-    } else if t.bytes + piece as u64 > LIMIT {
-        3
-    } else {
-        0
+// The refusal of a call of `take`, in the order of paper 01's table. No tally is for numbers that are none's: it is not in order.
+pub fn refusal(t: Option<&Tally>, piece: usize, area: usize) -> u8 {
+    match t {
+        Some(t) if in_order(t) => {
+            if area != AREA {
+                2
+            } else if t.bytes + piece as u64 > LIMIT {
+                3
+            } else {
+                0
+            }
+        }
+        _ => 1,
     }
 }

@@ -9,6 +9,7 @@ mod from_file;
 mod nominal;
 #[allow(dead_code)]
 mod stream;
+#[allow(dead_code)]
 mod tally;
 mod tuned;
 
@@ -151,7 +152,7 @@ fn in_rust(bytes: &[u8], piece: usize, take: Take) -> Left {
     let mut t = Tally::fresh();
     let mut area = vec![0; AREA];
     let paid = in_pieces(bytes, piece, |part| take(&mut t, part, &mut area));
-    Left { state: bridge::state_of(&t), area, paid }
+    Left { state: State::of(&t), area, paid }
 }
 
 fn copy(bytes: &[u8], piece: usize, to: &mut [u8]) {

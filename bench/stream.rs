@@ -50,16 +50,14 @@ pub fn put_word(out: &mut Vec<u8>, word: u8, spacing: usize) {
     out.resize(out.len() + spacing, FILL);
 }
 
-pub fn put_lead_in(out: &mut Vec<u8>, spacing: usize) {
-    for word in FRAME_SYNC {
+pub fn put_words(out: &mut Vec<u8>, words: &[u8], spacing: usize) {
+    for &word in words {
         put_word(out, word, spacing);
     }
 }
 
-pub fn put_frame(out: &mut Vec<u8>, frame: &[u8; FRAME], spacing: usize) {
-    for &word in frame {
-        put_word(out, word, spacing);
-    }
+pub fn put_lead_in(out: &mut Vec<u8>, spacing: usize) {
+    put_words(out, &FRAME_SYNC, spacing);
 }
 
 // How a frame's other words are chosen.
@@ -124,7 +122,7 @@ fn reel(r: &mut Random, frames: usize, from: u8, spacing: Option<usize>, faults:
         let spacing = spacing.unwrap_or_else(|| any_spacing(r));
         let start = out.len();
         let wrong = faults.strike(r).then(|| wrong_number(r, number));
-        put_frame(&mut out, &frame(r, wrong.unwrap_or(number), data), spacing);
+        put_words(&mut out, &frame(r, wrong.unwrap_or(number), data), spacing);
         if faults.strike(r) {
             spoil(r, &mut out, start, spacing);
         }

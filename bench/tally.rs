@@ -7,6 +7,9 @@ pub const FRAME: usize = 128;
 pub const NUMBER_PLACE: usize = 65;
 pub const AREA: usize = 16_384;
 
+// A tally crosses as so many numbers and its frame.
+pub const NUMBERS: usize = 20;
+
 #[derive(Clone, Copy, Debug, PartialEq, Eq)]
 pub struct Tally {
     pub bytes: u64,
@@ -57,5 +60,68 @@ impl Tally {
             building: 0,
             frame: [0; FRAME],
         }
+    }
+
+    // The numbers in the order in which they cross.
+    pub fn numbers(&self) -> [u64; NUMBERS] {
+        [
+            self.bytes,
+            self.fill,
+            self.stray,
+            self.voted,
+            self.split,
+            self.open,
+            self.first.into(),
+            self.second.into(),
+            self.hunted,
+            self.good,
+            self.damaged,
+            self.unsynced,
+            self.placed,
+            self.hunting.into(),
+            self.matched,
+            self.erasure.into(),
+            self.majors,
+            self.broken,
+            self.loose,
+            self.building,
+        ]
+    }
+
+    // The tally whose numbers these are: none where a copy is no byte or a flag is neither 0 nor 1.
+    pub fn of_numbers(numbers: &[u64; NUMBERS], frame: &[u8; FRAME]) -> Option<Tally> {
+        let [bytes, fill, stray, voted, split, open, first, second, ..] = *numbers;
+        let [.., hunted, good, damaged, unsynced, placed, hunting, matched, erasure, majors, broken, loose, building] = *numbers;
+        Some(Tally {
+            bytes,
+            fill,
+            stray,
+            voted,
+            split,
+            open,
+            first: first.try_into().ok()?,
+            second: second.try_into().ok()?,
+            hunted,
+            good,
+            damaged,
+            unsynced,
+            placed,
+            hunting: flag(hunting)?,
+            matched,
+            erasure: flag(erasure)?,
+            majors,
+            broken,
+            loose,
+            building,
+            frame: *frame,
+        })
+    }
+}
+
+fn flag(number: u64) -> Option<bool> {
+    match number {
+        0 => Some(false),
+        1 => Some(true),
+        _ => None,
     }
 }

@@ -1,31 +1,26 @@
--- What the codecs promise of an answer, said of the lent place: in each of its cases. Assumes nothing.
+-- What the codecs promise of an answer, said of what crosses, where the answer is known to be one of its cases. Assumes nothing.
 use mathlib.Core.Path.{_≡_, ap, sym, _∙_}
 use mathlib.Core.List.{List}
 use Prim.Native.Nat.{ℕ}
 use lib.Ieee.{Float}
-use Rattle.time_code.specs.declared.Decoded as t
-use Rattle.time_code.specs.declared.Decoded.the-variants.{Time, Refused as NoTime}
-use Rattle.time_code.specs.declared.TimeCode.{TimeCode}
-use Rattle.time_code.specs.Codec as time
-use Rattle.time_code.specs.Promise as time-promise
-use Rattle.float1750.specs.declared.Decoded as n
-use Rattle.float1750.specs.declared.Decoded.the-variants.{Number, Refused as NoNumber}
-use Rattle.float1750.specs.Codec as number
-use Rattle.float1750.specs.Promise as number-promise
-use Rattle.bridge.specs.LentPlaces.{timeOr, numberOr}
+use Rattle.time_code.specs.declared.Decoded.{Decoded as TimeDecoded}
+use Rattle.time_code.specs.Codec.{numberOf as timeRefused}
+use Rattle.time_code.specs.Promise.{DecodePromise as TimePromise}
+use Rattle.float1750.specs.declared.Decoded.{Decoded as NumberDecoded}
+use Rattle.float1750.specs.Codec.{numberOf as numberRefused}
+use Rattle.float1750.specs.Promise.{DecodePromise as NumberPromise}
+use Rattle.bridge.specs.LentPlaces.{timeOr, numberOr, TimeCrossed, NumberCrossed}
 
-pub number-read : (w : List ℕ) (d : n.Decoded) (x old : Float) → number-promise.DecodePromise w d → d ≡ Number x
-    → (0 ≡ number.decodeRefusal w) × (x ≡ numberOr (number.decoded w) old)
-number-read w d x old p e = (sym (ap number.numberOf e) ∙ p .refusal-is, ap (λ (a : n.Decoded). numberOr a old) (sym e ∙ p .answer))
+pub time-crossed : (bytes : List ℕ) (d a : TimeDecoded) (old : List ℕ) → TimePromise bytes d → d ≡ a
+    → TimeCrossed bytes (timeRefused a) old (timeOr a old)
+time-crossed bytes d a old p e = record {
+  refusal-is = sym (ap timeRefused e) ∙ p .refusal-is;
+  time-is = ap (λ (x : TimeDecoded). timeOr x old) (sym e ∙ p .answer);
+}
 
-pub number-refused : (w : List ℕ) (d : n.Decoded) (k : ℕ) (old : Float) → number-promise.DecodePromise w d → d ≡ NoNumber k
-    → (k ≡ number.decodeRefusal w) × (old ≡ numberOr (number.decoded w) old)
-number-refused w d k old p e = (sym (ap number.numberOf e) ∙ p .refusal-is, ap (λ (a : n.Decoded). numberOr a old) (sym e ∙ p .answer))
-
-pub time-read : (w : List ℕ) (d : t.Decoded) (x : TimeCode) (old : List ℕ) → time-promise.DecodePromise w d → d ≡ Time x
-    → (0 ≡ time.decodeRefusal w) × (timeOr (Time x) old ≡ timeOr (time.decoded w) old)
-time-read w d x old p e = (sym (ap time.numberOf e) ∙ p .refusal-is, ap (λ (a : t.Decoded). timeOr a old) (sym e ∙ p .answer))
-
-pub time-refused : (w : List ℕ) (d : t.Decoded) (k : ℕ) (old : List ℕ) → time-promise.DecodePromise w d → d ≡ NoTime k
-    → (k ≡ time.decodeRefusal w) × (old ≡ timeOr (time.decoded w) old)
-time-refused w d k old p e = (sym (ap time.numberOf e) ∙ p .refusal-is, ap (λ (a : t.Decoded). timeOr a old) (sym e ∙ p .answer))
+pub number-crossed : (bytes : List ℕ) (d a : NumberDecoded) (old : Float) → NumberPromise bytes d → d ≡ a
+    → NumberCrossed bytes (numberRefused a) old (numberOr a old)
+number-crossed bytes d a old p e = record {
+  refusal-is = sym (ap numberRefused e) ∙ p .refusal-is;
+  number-is = ap (λ (x : NumberDecoded). numberOr x old) (sym e ∙ p .answer);
+}

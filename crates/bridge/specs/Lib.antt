@@ -1,3 +1,2 @@
-pub mod Crossing
 pub mod LentPlaces
 pub mod Word72

@@ -14,7 +14,7 @@ use Rattle.word72_items.specs.Answers.{itemLines, countLines}
 use Rattle.word72_column.specs.Columns.{kindOf, kindLines}
 use Rattle.word72_reading.specs.Values.{Value, count, flags, number, time, fill}
 use Rattle.subcom.specs.Readings.{readLines, itemValue}
-use Rattle.bridge.specs.Crossing.{flag}
+use Rattle.base.specs.Lists.{one as flag}
 
 -- the forms by number
 abbrev pub formNumber : Form → ℕ

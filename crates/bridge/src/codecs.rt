@@ -1,16 +1,12 @@
 // The codecs of word 72. The answer is the number of the refusal, 0 for none; a refusal writes nothing.
-ghost use mathlib.Core.Path.{_≡_};
-ghost use Rattle.time_code.specs.Codec.{decodeRefusal as timeRefusal, decoded as timeDecoded};
 ghost use Rattle.time_code.specs.Promise.{EncodePromise as TimeWritten};
-ghost use Rattle.float1750.specs.Codec.{decodeRefusal as numberRefusal, decoded as numberDecoded};
 ghost use Rattle.float1750.specs.Promise.{EncodePromise as NumberWritten};
-ghost use Rattle.bridge.specs.LentPlaces.{timeCode, timeOr, numberOr};
+ghost use Rattle.bridge.specs.LentPlaces.{timeCode, TimeCrossed, NumberCrossed};
 
 // Reads a time code; `out` gets the spacecraft, then the instant.
 #[no_mangle]
 pub extern "C" fn pcd_decode_time(bytes: &[u8], out: &mut [u64; 2]) -> u8
-    ensures { λ r. ⌜ r ≡ timeRefusal (now (bytes .entry)) ⌝ }
-    ensures { λ _. ⌜ now (out .exit) ≡ timeOr (timeDecoded (now (bytes .entry))) (now (out .entry)) ⌝ }
+    ensures { λ r. ⌜ TimeCrossed (now (bytes .entry)) r (now (out .entry)) (now (out .exit)) ⌝ }
 {
     let d = time_code::decode(bytes);
     match d {
@@ -39,8 +35,7 @@ pub extern "C" fn pcd_encode_time(spacecraft: u64, instant: u64, out: &mut [u8])
 // Reads a number of MIL-STD-1750.
 #[no_mangle]
 pub extern "C" fn pcd_decode_number(bytes: &[u8], out: &mut f64) -> u8
-    ensures { λ r. ⌜ r ≡ numberRefusal (now (bytes .entry)) ⌝ }
-    ensures { λ _. ⌜ now (out .exit) ≡ numberOr (numberDecoded (now (bytes .entry))) (now (out .entry)) ⌝ }
+    ensures { λ r. ⌜ NumberCrossed (now (bytes .entry)) r (now (out .entry)) (now (out .exit)) ⌝ }
 {
     let d = float1750::decode(bytes);
     match d {

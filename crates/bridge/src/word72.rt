@@ -5,7 +5,7 @@ ghost use Rattle.word72_column.specs.Promise.{GatherPromise};
 ghost use Rattle.word72_reading.specs.Readings.{bitsIn};
 ghost use Rattle.word72_reading.specs.Values.{flags};
 ghost use Rattle.bridge.specs.Word72.{formNumber, valueNumbers, KindCrossed, CountCrossed, DescribeCrossed, ReadCrossed};
-use crate::flag;
+use crossing::flag;
 use subcom::ColumnKind;
 use subcom::Description;
 use subcom::EightFlags;

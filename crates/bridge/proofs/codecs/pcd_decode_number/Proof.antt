@@ -1,5 +1,6 @@
 -- `bridge::codecs::pcd_decode_number` meets its contract: each arm is a case of the answer. Assumes nothing.
-use Rattle.bridge.proofs.Answers.{number-read, number-refused}
+use Rattle.float1750.specs.declared.Decoded.the-variants.{Number, Refused}
+use Rattle.bridge.proofs.Answers.{number-crossed}
 use borrow.Author.Needs.{needs}
 use Rattle.bridge.proofs.codecs.pcd_decode_number.Statement.{statement}
 use Rattle.bridge.proofs.codecs.pcd_decode_number.Tie as tie
@@ -11,13 +12,13 @@ enum-known-d : tie.Need-enum-known-d
 enum-known-d c = search needs
 
 returns : tie.Need-returns
-returns c = number-read _ _ _ _ (c .before .before .before .decode .ensures) (c .before .d .given .1)
+returns c = number-crossed _ _ (Number _) _ (c .before .before .before .decode .ensures) (c .before .d .given .1)
 
 enum-known-d-2 : tie.Need-enum-known-d-2
 enum-known-d-2 c = search needs
 
 returns-2 : tie.Need-returns-2
-returns-2 c = number-refused _ _ _ _ (c .before .before .before .decode .ensures) (c .before .d2 .given .1)
+returns-2 c = number-crossed _ _ (Refused _) _ (c .before .before .before .decode .ensures) (c .before .d2 .given .1)
 
 pub pcd-decode-number-spec : {M : Type 1} → statement M
 pcd-decode-number-spec =

@@ -1,7 +1,7 @@
--- `bridge::put_tally` meets its contract: two numbers are copies and two are flags. Assumes nothing.
+-- `crossing::put_tally` meets its contract: two numbers are copies and two are flags. Assumes nothing.
 use borrow.Author.Needs.{needs}
-use Rattle.bridge.proofs.put_tally.Statement.{statement}
-use Rattle.bridge.proofs.put_tally.Tie as tie
+use Rattle.crossing.proofs.put_tally.Statement.{statement}
+use Rattle.crossing.proofs.put_tally.Tie as tie
 
 wide-requires : tie.Need-wide-requires
 wide-requires c κs = search needs
@@ -16,7 +16,10 @@ flag-requires-2 : tie.Need-flag-requires-2
 flag-requires-2 c κs = search needs
 
 returns : tie.Need-returns
-returns c = (rw (c .before .before .before .flag2 .ensures, c .before .before .before .before .flag .ensures, c .before .before .before .before .before .before .wide2 .ensures, c .before .before .before .before .before .before .before .wide .ensures), search needs)
+returns c =
+    let flags = c .before .before .before in
+    let copies = flags .before .before .before in
+    (rw (flags .flag2 .ensures, flags .before .flag .ensures, copies .wide2 .ensures, copies .before .wide .ensures), search needs)
 
 pub put-tally-spec : {M : Type 1} → statement M
 put-tally-spec =

@@ -1,0 +1,89 @@
+// Tallies that `take` must refuse, as they cross: out of order by one number, or in ways that keep some of the sums, and numbers that are no
+// tally's at all.
+
+use crate::bridge::State;
+use crate::plain::LIMIT;
+use crate::stream::Random;
+use crate::tally::{Tally, NUMBERS};
+
+// Where the copies and the flags stand among the numbers; all others are counts.
+const COPIES: [usize; 2] = [6, 7];
+const FLAGS: [usize; 2] = [13, 15];
+
+const HUGE: [u64; 5] = [LIMIT + 1, 1 << 62, 1 << 63, u64::MAX, u64::MAX - 3];
+
+fn huge(r: &mut Random) -> u64 {
+    HUGE[r.below(HUGE.len())]
+}
+
+// Raises bytes and FILL alike, which keeps a tally's sums.
+pub fn fill_up_to(t: &mut Tally, bytes: u64) {
+    let more = bytes.wrapping_sub(t.bytes);
+    t.bytes = bytes;
+    t.fill = t.fill.wrapping_add(more);
+}
+
+// A number too large for its copy or flag: the least such, a good one with bits above it, or a huge one.
+pub fn no_tally(r: &mut Random, s: &mut State) {
+    let (places, above) = if r.one_in(2) { (COPIES, 256) } else { (FLAGS, 2) };
+    let number = &mut s.numbers[places[r.below(2)]];
+    *number = match r.below(4) {
+        0 => above,
+        1 => *number + above * (1 + r.below(3) as u64),
+        2 => *number + (1 << 32),
+        _ => huge(r),
+    };
+}
+
+// Numbers of any size, of which few lists are a tally's.
+pub fn any_numbers(r: &mut Random, s: &mut State) {
+    s.numbers.iter_mut().for_each(|n| *n = r.next() >> r.below(64));
+}
+
+// Changes a count, or several so that some of the sums are kept; likely to be out of order then.
+pub fn out_of_order(r: &mut Random, s: &mut State) {
+    if r.one_in(6) {
+        one_count(r, &mut s.numbers);
+    } else if let Some(mut t) = s.tally() {
+        some_counts(r, &mut t);
+        *s = State::of(&t);
+    }
+}
+
+fn one_count(r: &mut Random, numbers: &mut [u64; NUMBERS]) {
+    let counts: Vec<usize> = (0..NUMBERS).filter(|at| !COPIES.contains(at) && !FLAGS.contains(at)).collect();
+    let number = &mut numbers[counts[r.below(counts.len())]];
+    *number = if r.one_in(2) { number.wrapping_add(1) } else { huge(r) };
+}
+
+fn some_counts(r: &mut Random, t: &mut Tally) {
+    match r.below(10) {
+        0 => fill_up_to(t, huge(r)),
+        1 => t.hunting = !t.hunting,
+        2 => t.erasure = !t.erasure,
+        3 => t.matched = r.below(5) as u64,
+        // Sums that hold modulo 2^64 only.
+        4 => t.voted = t.voted.wrapping_add(1 << 62),
+        5 => {
+            t.voted = t.voted.wrapping_add(1 << 62);
+            t.hunted = t.hunted.wrapping_add(1 << 62);
+        }
+        // Sums that hold, beyond the bound of one part.
+        6 => {
+            t.open += 4;
+            t.bytes += 4;
+        }
+        7 => {
+            t.placed += 128;
+            t.unsynced = t.unsynced.wrapping_sub(1);
+        }
+        8 => {
+            t.building += 128;
+            t.majors = t.majors.wrapping_sub(1);
+        }
+        _ => {
+            t.loose = t.loose.wrapping_sub(1);
+            t.building += 1;
+        }
+    }
+}

@@ -1,0 +1,27 @@
+// The reader's two entries. A tally crosses as its twenty numbers and its frame of 128 bytes, which the caller lends and gets back.
+ghost use Rattle.crossing.specs.Crossing.{lent, TakeCrossed, FreshCrossed};
+
+// Writes a fresh tally.
+#[no_mangle]
+pub extern "C" fn pcd_fresh(numbers: &mut [u64; 20], frame: &mut [u8; 128])
+    ensures { λ _. ⌜ FreshCrossed (now (numbers .exit)) (now (frame .exit)) ⌝ }
+{
+    crossing::fresh(numbers, frame);
+}
+
+// Takes a piece of the stream. Returns the number of the refusal, 0 for none; a refusal writes nothing. `answer` gets the bytes taken, then
+// 1 where a major frame is complete and 0 where none is.
+#[no_mangle]
+pub extern "C" fn pcd_take(
+    numbers: &mut [u64; 20],
+    frame: &mut [u8; 128],
+    piece: &[u8],
+    area: &mut [u8],
+    answer: &mut [u64; 2],
+) -> u8
+    ensures { λ r. ⌜ TakeCrossed
+        (lent (now (numbers .entry)) (now (frame .entry)) (now (area .entry)) (now (answer .entry))) (now (piece .entry)) r
+        (lent (now (numbers .exit)) (now (frame .exit)) (now (area .exit)) (now (answer .exit))) ⌝ }
+{
+    crossing::take(numbers, frame, piece, area, answer)
+}

@@ -1,0 +1,23 @@
+-- `crossing::tally_of` meets its contract: its parts are the layers'. Assumes nothing.
+use Rattle.crossing.proofs.Numbers.{passed}
+use borrow.Author.Needs.{needs}
+use Rattle.crossing.proofs.tally_of.Statement.{statement}
+use Rattle.crossing.proofs.tally_of.Tie as tie
+
+groups-of-requires : tie.Need-groups-of-requires
+groups-of-requires c κs = let p = passed _ (c .pre) in (p .first-byte, p .second-byte)
+
+framing-of-requires : tie.Need-framing-of-requires
+framing-of-requires c κs = search needs
+
+runs-of-requires : tie.Need-runs-of-requires
+runs-of-requires c κs = search needs
+
+returns : tie.Need-returns
+returns c =
+    let called = c .before in
+    rw (called .runs-of .ensures, called .before .framing-of .ensures, called .before .before .groups-of .ensures)
+
+pub tally-of-spec : {M : Type 1} → statement M
+tally-of-spec =
+    tie.close (tie.spec groups-of-requires framing-of-requires runs-of-requires returns)

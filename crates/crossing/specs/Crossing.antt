@@ -1,0 +1,120 @@
+-- A tally as it crosses to another language: twenty numbers, and the frame beside them. Definitions only.
+use mathlib.Core.Path.{_≡_}
+use mathlib.Core.Bool.{Bool, true, cond, not, _&&_}
+use mathlib.Core.List.{List, [], _∷_, _++_}
+use Prim.Native.Nat.{ℕ, _<_}
+use lib.Dec.{eqb, ltb}
+use lib.ListN.{length, getD}
+use Rattle.base.specs.Lists.{one}
+use Rattle.base.specs.Refusal.{_when_, answered}
+use Rattle.labelling.specs.declared.Framing.{Framing}
+use Rattle.labelling.specs.declared.Groups.{Groups}
+use Rattle.labelling.specs.declared.Runs.{Runs}
+use Rattle.labelling.specs.declared.Tally.{Tally}
+use Rattle.labelling.specs.Words.{byteVote}
+use Rattle.labelling.specs.Machine.{fresh}
+use Rattle.labelling.specs.Calls.{Call, Answer, answer, takeRefusal}
+
+-- ---- a tally to numbers: the counts as they are, a copy as its byte, a flag as 1 or 0
+
+abbrev pub groupNumbers : Groups → List ℕ
+groupNumbers g = g .bytes ∷ g .fill ∷ g .stray ∷ g .voted ∷ g .split ∷ g .«open» ∷ g .first ∷ g .second ∷ []
+
+abbrev pub framingNumbers : Framing → List ℕ
+framingNumbers f =
+    f .hunted ∷ f .good ∷ f .damaged ∷ f .unsynced ∷ f .placed ∷ one (f .hunting) ∷ f .matched ∷ one (f .erasure) ∷ []
+
+abbrev pub runNumbers : Runs → List ℕ
+runNumbers r = r .majors ∷ r .broken ∷ r .loose ∷ r .building ∷ []
+
+abbrev pub numbersOf : Tally → List ℕ
+numbersOf t = groupNumbers (t .groups) ++ framingNumbers (t .framing) ++ runNumbers (t .runs)
+
+-- ---- numbers to a tally
+
+-- the numbers are a tally's: each copy is a byte and each flag is 1 or 0
+unfoldable pub isTally : List ℕ → Bool
+isTally n = ltb (getD n 6 0) 256 && ltb (getD n 7 0) 256 && ltb (getD n 13 0) 2 && ltb (getD n 15 0) 2
+
+-- the tally that they are the numbers of
+abbrev pub groupsOf : List ℕ → Groups
+groupsOf n = record {
+  bytes = getD n 0 0;
+  fill = getD n 1 0;
+  stray = getD n 2 0;
+  voted = getD n 3 0;
+  split = getD n 4 0;
+  «open» = getD n 5 0;
+  first = getD n 6 0;
+  second = getD n 7 0;
+}
+
+abbrev pub framingOf : List ℕ → Framing
+framingOf n = record {
+  hunted = getD n 8 0;
+  good = getD n 9 0;
+  damaged = getD n 10 0;
+  unsynced = getD n 11 0;
+  placed = getD n 12 0;
+  hunting = eqb (getD n 13 0) 1;
+  matched = getD n 14 0;
+  erasure = eqb (getD n 15 0) 1;
+}
+
+abbrev pub runsOf : List ℕ → Runs
+runsOf n = record { majors = getD n 16 0; broken = getD n 17 0; loose = getD n 18 0; building = getD n 19 0 }
+
+abbrev pub tallyOf : List ℕ → List ℕ → Tally
+tallyOf n frame = record { groups = groupsOf n; framing = framingOf n; runs = runsOf n; frame = frame }
+
+-- the two copies of a tally are bytes, as its struct has them
+pub record Copies (t : Tally) : Type 0 where
+  pub first-byte : t .groups .first < 256
+  pub second-byte : t .groups .second < 256
+
+-- The lists that are a tally's are exactly the numbers of tallies, and each is the numbers of one tally: what crosses comes back the same,
+-- both ways.
+pub record Layout : Type 0 where
+  pub twenty : (t : Tally) → length (numbersOf t) ≡ 20
+  pub crosses : (t : Tally) → Copies t → isTally (numbersOf t) ≡ true
+  pub reads-back : (t : Tally) → tallyOf (numbersOf t) (t .frame) ≡ t
+  pub writes-back : (n frame : List ℕ) → length n ≡ 20 → isTally n ≡ true → (numbersOf (tallyOf n frame) ≡ n) × Copies (tallyOf n frame)
+
+-- ---- what the entries promise
+
+-- `fresh` leaves the lent numbers and frame
+pub record FreshCrossed (numbers frame : List ℕ) : Type 0 where
+  pub numbers-is : numbers ≡ numbersOf fresh
+  pub frame-is : frame ≡ fresh .frame
+  pub layout : Layout
+
+-- the places lent to `take` beside the piece
+pub record Lent : Type 0 where
+  pub numbers : List ℕ
+  pub frame : List ℕ
+  pub area : List ℕ
+  pub answer : List ℕ
+
+abbrev pub lent : List ℕ → List ℕ → List ℕ → List ℕ → Lent
+lent numbers frame area answer = record { numbers = numbers; frame = frame; area = area; answer = answer }
+
+-- the reader's call that they stand for
+abbrev pub callOf : Lent → List ℕ → Call
+callOf l piece = record { tally = tallyOf (l .numbers) (l .frame); piece = piece; area = l .area }
+
+-- numbers that are no tally's are not in order: 1, before the lines of the reader's call, of which 1 is the first too
+unfoldable pub takeRefused : Lent → List ℕ → ℕ
+takeRefused l piece = answered (λ n. n) (1 when not (isTally (l .numbers)) ∷ []) (takeRefusal (callOf l piece))
+
+-- an answer as it crosses: the tally, the area, the bytes taken and whether a major frame is complete
+abbrev pub written : Answer → Lent
+written a = lent (numbersOf (a .tally)) (a .tally .frame) (a .area) (a .taken ∷ one (a .complete) ∷ [])
+
+-- what is left: the answer, and after a refusal all as it was
+unfoldable pub takeLeaves : Lent → List ℕ → Lent
+takeLeaves l piece = cond (eqb (takeRefused l piece) 0) (written (answer byteVote (callOf l piece))) l
+
+-- `take` of a piece, with these places lent, returns r and leaves them so
+pub record TakeCrossed (l : Lent) (piece : List ℕ) (r : ℕ) (left : Lent) : Type 0 where
+  pub refusal-is : r ≡ takeRefused l piece
+  pub left-is : left ≡ takeLeaves l piece

@@ -1,0 +1,159 @@
+// A tally as it crosses to programs in other languages: twenty numbers and the frame's 128 bytes, which the caller lends. An entry reads
+// them, calls the reader, and writes them back. No number is cut: numbers that are no tally's are refused as a tally not in order is.
+ghost use mathlib.Core.Path.{_≡_};
+ghost use mathlib.Core.Bool.{true};
+ghost use Prim.Native.Nat.{_<_};
+ghost use lib.ListN.{getD};
+ghost use Rattle.base.specs.Lists.{one};
+ghost use Rattle.crossing.specs.Crossing.{isTally, groupsOf, framingOf, runsOf, tallyOf, numbersOf, lent, TakeCrossed, FreshCrossed};
+use base::refusal::NOT_IN_ORDER;
+use base::wide;
+use labelling::Framing;
+use labelling::Groups;
+use labelling::Runs;
+use labelling::Tally;
+
+// Writes a fresh tally. What it promises of the numbers: they are those of a tally, and of that one alone.
+pub fn fresh(numbers: &mut [u64; 20], frame: &mut [u8; 128])
+    ensures { λ _. ⌜ FreshCrossed (now (numbers .exit)) (now (frame .exit)) ⌝ }
+{
+    let t = reader::fresh();
+    put_tally(t, numbers, frame);
+}
+
+// Takes a piece of the stream. Returns the number of the refusal, 0 for none; a refusal writes nothing. `answer` gets the bytes taken, then
+// 1 where a major frame is complete and 0 where none is.
+pub fn take(
+    numbers: &mut [u64; 20],
+    frame: &mut [u8; 128],
+    piece: &[u8],
+    area: &mut [u8],
+    answer: &mut [u64; 2],
+) -> u8
+    ensures { λ r. ⌜ TakeCrossed
+        (lent (now (numbers .entry)) (now (frame .entry)) (now (area .entry)) (now (answer .entry))) (now (piece .entry)) r
+        (lent (now (numbers .exit)) (now (frame .exit)) (now (area .exit)) (now (answer .exit))) ⌝ }
+{
+    if !is_tally(&*numbers) {
+        return NOT_IN_ORDER;
+    }
+    let t = tally_of(&*numbers, &*frame);
+    let r = reader::take(t, piece, area);
+    if r.refusal != 0 {
+        return r.refusal;
+    }
+    let left = r.tally;
+    put_tally(left, numbers, frame);
+    let complete = flag(r.complete);
+    *answer = [r.taken as u64, complete];
+    0
+}
+
+// Whether these are the numbers of a tally: the copies are bytes, the flags 0 or 1.
+fn is_tally(n: &[u64; 20]) -> bool
+    ensures { λ r. ⌜ r ≡ isTally (now (n .entry)) ⌝ }
+{
+    (n[6] < 256) & (n[7] < 256) & (n[13] < 2) & (n[15] < 2)
+}
+
+fn tally_of(n: &[u64; 20], frame: &[u8; 128]) -> Tally
+    requires { ⌜ isTally (now n) ≡ true ⌝ }
+    ensures { λ r. ⌜ r ≡ tallyOf (now (n .entry)) (now (frame .entry)) ⌝ }
+{
+    let groups = groups_of(n);
+    let framing = framing_of(n);
+    let runs = runs_of(n);
+    let bytes = *frame;
+    Tally {
+        groups: groups,
+        framing: framing,
+        runs: runs,
+        frame: bytes,
+    }
+}
+
+fn put_tally(t: Tally, n: &mut [u64; 20], frame: &mut [u8; 128])
+    ensures { λ _. ⌜ now (n .exit) ≡ numbersOf t ⌝ }
+    ensures { λ _. ⌜ now (frame .exit) ≡ t .frame ⌝ }
+{
+    let g = t.groups;
+    let first = wide(g.first);
+    let second = wide(g.second);
+    let f = t.framing;
+    let hunting = flag(f.hunting);
+    let erasure = flag(f.erasure);
+    let r = t.runs;
+    *n = [
+        g.bytes,
+        g.fill,
+        g.stray,
+        g.voted,
+        g.split,
+        g.open,
+        first,
+        second,
+        f.hunted,
+        f.good,
+        f.damaged,
+        f.unsynced,
+        f.placed,
+        hunting,
+        f.matched,
+        erasure,
+        r.majors,
+        r.broken,
+        r.loose,
+        r.building,
+    ];
+    let bytes = t.frame;
+    *frame = bytes;
+}
+
+fn groups_of(n: &[u64; 20]) -> Groups
+    requires { ⌜ (getD (now n) 6 0 < 256) × (getD (now n) 7 0 < 256) ⌝ }
+    ensures { λ r. ⌜ r ≡ groupsOf (now (n .entry)) ⌝ }
+{
+    Groups {
+        bytes: n[0],
+        fill: n[1],
+        stray: n[2],
+        voted: n[3],
+        split: n[4],
+        open: n[5],
+        first: n[6] as u8,
+        second: n[7] as u8,
+    }
+}
+
+fn framing_of(n: &[u64; 20]) -> Framing
+    ensures { λ r. ⌜ r ≡ framingOf (now (n .entry)) ⌝ }
+{
+    Framing {
+        hunted: n[8],
+        good: n[9],
+        damaged: n[10],
+        unsynced: n[11],
+        placed: n[12],
+        hunting: n[13] == 1,
+        matched: n[14],
+        erasure: n[15] == 1,
+    }
+}
+
+fn runs_of(n: &[u64; 20]) -> Runs
+    ensures { λ r. ⌜ r ≡ runsOf (now (n .entry)) ⌝ }
+{
+    Runs {
+        majors: n[16],
+        broken: n[17],
+        loose: n[18],
+        building: n[19],
+    }
+}
+
+// A flag as a number.
+pub fn flag(b: bool) -> u64
+    ensures { λ r. ⌜ r ≡ one b ⌝ }
+{
+    b as u64
+}

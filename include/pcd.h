@@ -1,0 +1,141 @@
+/*
+ * Landsat 7 payload correction data (PCD): the proved library for programs in C.
+ *
+ *     rt staticlib bridge                                  target/staticlib/libbridge.a
+ *     cc -I include program.c target/staticlib/libbridge.a
+ *
+ * Every function but pcd_fresh, which refuses nothing, returns the number of its refusal, 0 for none. A refused call leaves all lent memory
+ * as it was. Where several refusals apply, the lowest number is given; but 4 goes before 2 where a length depends on the spacing.
+ *
+ * What a caller owes: each pointer leads to as many elements as its array or its count says, none is NULL (with a count of 0 too), and
+ * no two of them overlap. Everything else is tested. Nothing is kept between calls but what the caller lends.
+ *
+ * A plain array, as numbers[PCD_NUMBERS], has its length in its type: it crosses as a pointer alone, and no count of it can be wrong.
+ */
+#ifndef PCD_H
+#define PCD_H
+
+#include <stddef.h>
+#include <stdint.h>
+
+#ifdef __cplusplus
+extern "C" {
+#endif
+
+/* ---- Refusals */
+
+#define PCD_NOT_IN_ORDER 1       /* the tally is not in order, or its numbers are no tally's */
+#define PCD_WRONG_LENGTH 2       /* a lent area, column, source or output has another length than it must have */
+#define PCD_TOO_MANY_BYTES 3     /* the bytes so far and the piece are more than 2^40 */
+#define PCD_SPACING_TOO_WIDE 4   /* the spacing is above 60 */
+#define PCD_NOT_A_MINOR_FRAME 5  /* a minor frame to write lacks its sync words, or its number is above 127 */
+#define PCD_NO_SUCH_KIND 6       /* the kind is above 3; or a column has none */
+#define PCD_NO_SUCH_ITEM 7       /* the kind has no such item */
+#define PCD_TIME_OUT_OF_RANGE 8  /* a digit or a field of a time is out of range */
+#define PCD_UPPER_BITS_SET 9     /* the upper four bits of a 12-bit item are not 0 */
+#define PCD_NOT_NORMALISED 10    /* a six-byte number is not normalised */
+#define PCD_NO_WORD_FOR_DOUBLE 11 /* a double has no six-byte word */
+
+/* ---- Sizes */
+
+#define PCD_NUMBERS 20           /* the numbers of a tally */
+#define PCD_MINOR_FRAME 128      /* the bytes of a minor frame */
+#define PCD_MAJOR_FRAME 16384    /* the bytes of a major frame, and of the area that it is put together in */
+#define PCD_COLUMN 128           /* word 72 of each minor frame of a major frame */
+#define PCD_TIME 7               /* the bytes of a time code */
+#define PCD_NUMBER 6             /* the bytes of a number of MIL-STD-1750, extended */
+
+/* ---- The reader
+ *
+ * A tally is PCD_NUMBERS numbers and the minor frame that is being filled. The caller lends both, and hands them on from call to call as
+ * they were left. The places of the numbers: */
+
+enum {
+    PCD_BYTES,      /* bytes = fill + stray + 4 * voted + 4 * split + open */
+    PCD_FILL,
+    PCD_STRAY,
+    PCD_VOTED,      /* voted + split = hunted + 128 * (good + damaged + unsynced) + placed */
+    PCD_SPLIT,
+    PCD_OPEN,       /* 0 to 3 */
+    PCD_FIRST,      /* the first copy of the last group, a byte */
+    PCD_SECOND,     /* its second copy, a byte */
+    PCD_HUNTED,
+    PCD_GOOD,       /* good = 128 * majors + broken + loose + building */
+    PCD_DAMAGED,
+    PCD_UNSYNCED,
+    PCD_PLACED,     /* 0 to 127 */
+    PCD_HUNTING,    /* 1 while the reader hunts for the sync words, else 0 */
+    PCD_MATCHED,    /* how many of them the last words are, 0 to 2 */
+    PCD_ERASURE,    /* 1 where the frame being filled has a hole, else 0 */
+    PCD_MAJORS,
+    PCD_BROKEN,
+    PCD_LOOSE,
+    PCD_BUILDING    /* 0 to 127 */
+};
+
+/* Writes a fresh tally: it hunts, and is otherwise 0. */
+void pcd_fresh(uint64_t numbers[PCD_NUMBERS], uint8_t frame[PCD_MINOR_FRAME]);
+
+/* Takes a piece of the unpacked stream, of any length. The area has PCD_MAJOR_FRAME bytes, in which the caller does not write between calls.
+ *
+ * Accepted: the tally moves on; each minor frame of a run is put at 128 times its number in the area; answer[0] is how many bytes were
+ * taken, answer[1] whether a major frame is complete, 1 or 0. Where one is, the area holds it, the call stopped just after its last byte,
+ * and the next call goes on from there; else the whole piece was taken.
+ *
+ * Refused: 1, a copy is above 255, a flag above 1, or the tally is not in order; 2, the area's length; 3. Nothing is taken or written. */
+uint8_t pcd_take(uint64_t numbers[PCD_NUMBERS], uint8_t frame[PCD_MINOR_FRAME], const uint8_t *piece, size_t piece_len, uint8_t *area,
+                 size_t area_len, uint64_t answer[2]);
+
+/* ---- The writer: for each byte SYNC, three copies and so many FILL as the spacing says, 0 to 60. */
+
+/* Writes a lead-in, the three sync words, into exactly 3 * (4 + spacing) bytes. Refused: 4, 2. */
+uint8_t pcd_write_lead_in(uint64_t spacing, uint8_t *out, size_t out_len);
+
+/* Writes a minor frame of 128 bytes into exactly 128 * (4 + spacing) bytes. Refused: 4; 2, either length; 5. */
+uint8_t pcd_write_minor_frame(uint64_t spacing, const uint8_t *frame, size_t frame_len, uint8_t *out, size_t out_len);
+
+/* ---- Word 72 */
+
+/* Puts place 72 of each minor frame of an area of PCD_MAJOR_FRAME bytes into a column of PCD_COLUMN. Refused: 2, either length. */
+uint8_t pcd_gather(const uint8_t *area, size_t area_len, uint8_t *column, size_t column_len);
+
+/* The kind of a column, 0 to 3. Refused: 2; 6, it has none. */
+uint8_t pcd_kind(const uint8_t *column, size_t column_len, uint64_t *out);
+
+/* How many items a kind has. Refused: 6. */
+uint8_t pcd_item_count(uint64_t kind, uint64_t *out);
+
+/* An item's form, as a number: */
+enum { PCD_COUNT, PCD_TWELVE_BIT, PCD_FLAGS, PCD_DOUBLE, PCD_TIME_CODE, PCD_ZERO_FILL };
+
+/* What an item is: its form, its first place in the column, its length. Refused: 6, 7. */
+uint8_t pcd_describe(uint64_t kind, uint64_t item, uint64_t out[3]);
+
+/* Whether an item's bytes can be had from a column; pcd_describe says where they lie. Refused: 2, 6, 7. */
+uint8_t pcd_part_refusal(const uint8_t *column, size_t column_len, uint64_t kind, uint64_t item);
+
+/* What an item of a column reads as. out[0] is the form that it is read by: PCD_COUNT for a 12-bit item too, PCD_ZERO_FILL for one too long
+ * for a count. Then its values: a count; eight flags, the most significant bit first; spacecraft and instant. The rest of out is 0. A
+ * PCD_DOUBLE goes to number, which otherwise stays. Refused: 2, 6, 7, and by the item's form 8, 9 or 10. */
+uint8_t pcd_read(const uint8_t *column, size_t column_len, uint64_t kind, uint64_t item, uint64_t out[9], double *number);
+
+/* ---- The codecs of word 72 */
+
+/* Reads a time code of PCD_TIME bytes: out gets the spacecraft, 0 to 15, and the instant, in sixteenths of a millisecond, day * 24 hours and
+ * on down. Refused: 2, 8. */
+uint8_t pcd_decode_time(const uint8_t *bytes, size_t bytes_len, uint64_t out[2]);
+
+/* Writes the PCD_TIME bytes of a spacecraft and an instant. Refused: 2; 8, a spacecraft above 15 or an instant outside days 1 to 366. */
+uint8_t pcd_encode_time(uint64_t spacecraft, uint64_t instant, uint8_t *out, size_t out_len);
+
+/* Reads a number of PCD_NUMBER bytes, exactly. Refused: 2, 10. */
+uint8_t pcd_decode_number(const uint8_t *bytes, size_t bytes_len, double *out);
+
+/* Writes the PCD_NUMBER bytes of a double. Refused: 2; 11, among others negative zero, infinities and not-a-numbers. */
+uint8_t pcd_encode_number(double x, uint8_t *out, size_t out_len);
+
+#ifdef __cplusplus
+}
+#endif
+
+#endif
