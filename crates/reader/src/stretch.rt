@@ -107,9 +107,9 @@ fn hunt_run(l: Layers, piece: &[u8], at: usize) -> Reached
     }
     let r = nominal::pass(piece, at);
     let mut next = l;
-    next.groups = after_words(l.groups, (r.at - at) as u64, r.words, r.last);
+    next.groups = after_words(l.groups, (r.at - at) as u64, r.count, r.last);
     let mut f = l.framing;
-    f.hunted += r.words;
+    f.hunted += r.count;
     next.framing = f;
     Reached {
         layers: next,
