@@ -19,7 +19,8 @@ use Rattle.labelling.specs.Order.{inOrder}
 use Rattle.labelling.specs.Calls.{plus, feed}
 use Rattle.labelling.proofs.Ordered.{ordered, in-order, ordered-byte, bytes-byte}
 use Rattle.labelling.proofs.Feeding.{loop-more, loop-complete}
-use Rattle.nominal.specs.Stretches.{Byte, Stored, Hunted, Quiet, lastOr}
+use Rattle.quiet.specs.Quiet.{Byte, Quiet}
+use Rattle.nominal.specs.Stretches.{Stored, Hunted, lastOr}
 use Rattle.nominal.specs.Effect.{PlainSteps, stays, byte, withWords, withQuiet, withPlaced, withHunted, afterQuiet}
 use Rattle.nominal.proofs.Effect.{plain-join, plain-feed, plain-ordered, plain-bytes, group-opens, quiet-plain, placed-plain, hunted-plain}
 use Rattle.reader.specs.declared.run.Layers.{Layers}

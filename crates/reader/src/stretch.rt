@@ -1,4 +1,4 @@
-// Stretches of a piece, taken many bytes at a time: what the nominal crate finds is added to the counts at once. It is what plain steps
+// Stretches of a piece, taken many bytes at a time: what the crates nominal and quiet find is added to the counts at once. It is what plain steps
 // would have done.
 ghost use mathlib.Core.Path.{_≡_};
 ghost use mathlib.Core.Bool.{true, false};
@@ -107,9 +107,9 @@ fn hunt_run(l: Layers, piece: &[u8], at: usize) -> Reached
     }
     let r = nominal::pass(piece, at);
     let mut next = l;
-    next.groups = after_words(l.groups, (r.at - at) as u64, r.words, r.last);
+    next.groups = after_words(l.groups, (r.at - at) as u64, r.count, r.last);
     let mut f = l.framing;
-    f.hunted += r.words;
+    f.hunted += r.count;
     next.framing = f;
     Reached {
         layers: next,
@@ -136,7 +136,7 @@ fn open_group(l: Layers, piece: &[u8], at: usize) -> Reached
     requires { ⌜ l .groups .«open» ≡ 0 ⌝ }
     ensures { λ r. ⌜ ((frame a : List ℕ) → inOrder (tallyOf l frame) ≡ true → length frame ≡ 128 → Onward (now (piece .entry)) at (tallyOf l frame) a (r .at) (tallyOf (r .layers) frame) a false) ⌝ }
 {
-    let skipped = nominal::skip(piece, at);
+    let skipped = quiet::skip(piece, at);
     let j = skipped.at;
     let mut next = l;
     let g = after_quiet(l.groups, (j - at) as u64, skipped.stray);
