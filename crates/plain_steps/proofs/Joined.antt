@@ -79,7 +79,7 @@ module _ (l : Layers) (w : Word) (frame area : List ℕ) where
     pub word-closed : {k : FrameClass} {area′ : List ℕ} {x : Ended} → r .closing ≡ Frame k → EndPromise (l .runs) k new area area′ x
         → nowOf (record { layers = layersWith l (r .framing) (x .runs); complete = x .complete }) new area′ ≡ stepped
     word-closed {k} e q =
-        rw (q .runs-is, q .complete-is, q .area-is) (placed-as (closes-frame k) (ap eventOf e) (closedEvent k new (l .runs .building)) refl)
+        rw (q .counted .runs-is, q .counted .complete-is, q .area-is) (placed-as (closes-frame k) (ap eventOf e) (closedEvent k new (l .runs .building)) refl)
 
 -- ---- a byte
 

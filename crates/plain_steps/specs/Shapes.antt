@@ -9,7 +9,7 @@ use Rattle.labelling.specs.declared.Framing.{Framing}
 use Rattle.labelling.specs.declared.Runs.{Runs}
 use Rattle.labelling.specs.declared.Tally.{Tally}
 use Rattle.labelling.specs.declared.Word.{Word}
-use Rattle.labelling.specs.Machine.{WordEvent, fills, closes-frame, wordEvent, afterWord, filled, closedEvent, afterFrame, areaAfter, isComplete, Now}
+use Rattle.labelling.specs.Machine.{WordEvent, fills, closes-frame, wordEvent, afterWord, filled, FrameEvent, closedEvent, afterFrame, areaAfter, isComplete, Now}
 use Rattle.plain_steps.specs.declared.layers.Layers.{Layers}
 use Rattle.plain_steps.specs.declared.layers.Stepped.{Stepped}
 use Rattle.plain_steps.specs.declared.major.Ended.{Ended}
@@ -31,11 +31,15 @@ pub record PlacePromise (f : Framing) (w : Word) (old new : List ℕ) (r : Frame
 
 -- ---- a frame that is closed
 
+-- the event v is counted
+pub record Counted (v : FrameEvent) (r : Runs) (e : Ended) : Type 0 where
+  pub runs-is : e .runs ≡ afterFrame v r
+  pub complete-is : e .complete ≡ isComplete v
+
 -- a frame of class k and these bytes closes: the area is old before it and new afterwards
 pub record EndPromise (r : Runs) (k : FrameClass) (bytes old new : List ℕ) (e : Ended) : Type 0 where
-  pub runs-is : e .runs ≡ afterFrame (closedEvent k bytes (r .building)) r
+  pub counted : Counted (closedEvent k bytes (r .building)) r e
   pub area-is : new ≡ areaAfter (closedEvent k bytes (r .building)) bytes old
-  pub complete-is : e .complete ≡ isComplete (closedEvent k bytes (r .building))
 
 -- ---- the layers joined
 

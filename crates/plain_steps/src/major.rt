@@ -1,12 +1,12 @@
 // From minor to major frames: what a closed frame does to the run and to the area.
 ghost use mathlib.Core.Path.{_≡_};
-ghost use Prim.Native.Nat.{_+_, _*_, _≤_};
+ghost use Prim.Native.Nat.{_+_, _≤_};
 ghost use lib.ListN.{length};
 ghost use lib.Seq.{paste};
-ghost use mathlib.Core.Bool.{false};
-ghost use Rattle.labelling.specs.Machine.{interrupts, afterFrame};
+ghost use Rattle.base.specs.Format.{minorFrame};
+ghost use Rattle.labelling.specs.Machine.{goodEvent, interrupts};
 ghost use Rattle.order.specs.Room.{RunsRoom};
-ghost use Rattle.plain_steps.specs.Shapes.{Lent, EndPromise};
+ghost use Rattle.plain_steps.specs.Shapes.{Lent, Counted, EndPromise};
 use base::format::MAJOR_FRAME;
 use base::format::MINOR_FRAME;
 use base::format::NUMBER_PLACE;
@@ -24,8 +24,8 @@ pub(crate) struct Ended {
 
 // Copies a minor frame into the area.
 fn put(area: &mut [u8], at: usize, frame: &[u8; 128])
-    requires { ⌜ (at + 128 ≤ length (now area)) × (length (now frame) ≡ 128) ⌝ }
-    ensures { λ _. ⌜ now (area .exit) ≡ paste (now (area .entry)) at (now (frame .entry)) 128 ⌝ }
+    requires { ⌜ (at + minorFrame ≤ length (now area)) × (length (now frame) ≡ minorFrame) ⌝ }
+    ensures { λ _. ⌜ now (area .exit) ≡ paste (now (area .entry)) at (now (frame .entry)) minorFrame ⌝ }
 {
     let mut i: usize = 0;
     while i < MINOR_FRAME {
@@ -34,17 +34,13 @@ fn put(area: &mut [u8], at: usize, frame: &[u8; 128])
     }
 }
 
-// A good frame: it continues the run, starts one, or stands alone.
-fn end_good(r: Runs, frame: &[u8; 128], area: &mut [u8]) -> Ended
+// The counts after a good frame numbered n: it continues the run, starts one, or stands alone.
+fn after_good(r: Runs, n: u64) -> Ended
     requires { ⌜ RunsRoom r ⌝ }
-    requires { ⌜ Lent (now frame) (now area) ⌝ }
-    ensures { λ e. ⌜ EndPromise r FrameClass.Good (now (frame .entry)) (now (area .entry)) (now (area .exit)) e ⌝ }
+    ensures { λ e. ⌜ Counted (goodEvent n (r .building)) r e ⌝ }
 {
     let mut next = r;
-    let building = r.building;
-    let n = wide(frame[NUMBER_PLACE]);
-    if n == building {
-        put(area, MINOR_FRAME * n as usize, frame);
+    if n == r.building {
         if n < LAST_NUMBER {
             next.building += 1;
             return Ended {
@@ -59,9 +55,8 @@ fn end_good(r: Runs, frame: &[u8; 128], area: &mut [u8]) -> Ended
             complete: true,
         };
     }
-    next.broken += building;
+    next.broken += r.building;
     if n == 0 {
-        put(area, 0, frame);
         next.building = 1;
         return Ended {
             runs: next,
@@ -76,10 +71,10 @@ fn end_good(r: Runs, frame: &[u8; 128], area: &mut [u8]) -> Ended
     }
 }
 
-// Any other frame ends the run.
-fn end_other(r: Runs) -> Ended
+// The counts after any other frame: it ends the run.
+fn after_other(r: Runs) -> Ended
     requires { ⌜ RunsRoom r ⌝ }
-    ensures { λ e. ⌜ (e .runs ≡ afterFrame interrupts r) × (e .complete ≡ false) ⌝ }
+    ensures { λ e. ⌜ Counted interrupts r e ⌝ }
 {
     let mut next = r;
     next.broken += r.building;
@@ -90,6 +85,20 @@ fn end_other(r: Runs) -> Ended
     }
 }
 
+// A good frame. One that continues or starts a run is put at its place in the area.
+fn end_good(r: Runs, frame: &[u8; 128], area: &mut [u8]) -> Ended
+    requires { ⌜ RunsRoom r ⌝ }
+    requires { ⌜ Lent (now frame) (now area) ⌝ }
+    ensures { λ e. ⌜ EndPromise r FrameClass.Good (now (frame .entry)) (now (area .entry)) (now (area .exit)) e ⌝ }
+{
+    let n = wide(frame[NUMBER_PLACE]);
+    if (n != r.building) & (n != 0) {
+        return after_good(r, n);
+    }
+    put(area, MINOR_FRAME * n as usize, frame);
+    after_good(r, n)
+}
+
 // A closed frame.
 pub(crate) fn end_frame(r: Runs, class: FrameClass, frame: &[u8; 128], area: &mut [u8]) -> Ended
     requires { ⌜ RunsRoom r ⌝ }
@@ -98,7 +107,7 @@ pub(crate) fn end_frame(r: Runs, class: FrameClass, frame: &[u8; 128], area: &mu
 {
     match class {
         FrameClass::Good => end_good(r, frame, area),
-        FrameClass::Damaged => end_other(r),
-        FrameClass::Unsynced => end_other(r),
+        FrameClass::Damaged => after_other(r),
+        FrameClass::Unsynced => after_other(r),
     }
 }

@@ -1,10 +1,19 @@
--- `plain_steps::major::end_good` meets its contract: the number is the next of the run, or 0, or neither. Assumes nothing.
+-- `plain_steps::major::end_good` meets its contract: a frame that continues or starts a run is stored, and no other. Assumes nothing.
 use mathlib.Core.Path.{refl}
+use Prim.Native.Nat.{_≤_}
+use native.Mathlib.Omega.{arith}
 use denote.Ref.{now}
-use Rattle.plain_steps.proofs.Closed.{end-next, end-complete, end-first, end-loose}
+use Rattle.plain_steps.proofs.Closed.{numbered, end-apart, end-stored}
 use borrow.Author.Needs.{needs}
 use Rattle.plain_steps.proofs.major.end_good.Statement.{statement}
 use Rattle.plain_steps.proofs.major.end_good.Tie as tie
+
+-- a frame of a run has one of its numbers
+few : (c : tie.Else1) → c .before .before .wide .result ≤ 127
+few c =
+    let read = c .before .before in
+    let s = read .before .before .before in
+    numbered (read .wide .result) (s .args .r .building) (c .if1 .left) (s .pre .0 .building-max)
 
 element-copy-out-wide : tie.Need-element-copy-out-wide
 element-copy-out-wide c = search needs
@@ -12,68 +21,38 @@ element-copy-out-wide c = search needs
 wide-requires : tie.Need-wide-requires
 wide-requires c κs = search needs
 
+after-good-requires : tie.Need-after-good-requires
+after-good-requires c κs = search needs
+
+returns : tie.Need-returns
+returns c =
+    let read = c .before .before .before in
+    let a = read .before .before .before .args in
+    end-apart (a .r) (now (a .frame)) (now (a .area)) _ (read .wide .result) (read .wide .ensures) (c .after-good .ensures) (c .before .if1 .taken) refl
+
 mul-put : tie.Need-mul-put
-mul-put c = search needs
+mul-put c = omega (arith, few (c .before))
 
 put-requires : tie.Need-put-requires
-put-requires c κs = search needs
+put-requires c κs =
+    let read = c .before .before .before in
+    let lent = read .before .before .before .pre .1 in
+    (omega (arith, few (c .before), lent .area-length), lent .frame-length)
 
-add-next : tie.Need-add-next
-add-next c = search needs
+after-good-requires-2 : tie.Need-after-good-requires-2
+after-good-requires-2 c κs = search needs
 
 same-length : tie.Need-same-length
 same-length c = search needs
 
-returns : tie.Need-returns
-returns c =
-    let put = c .before .before .before .before in
-    let equal = put .before .before in
-    let read = equal .before in
-    let a = read .before .before .before .args in
-    end-next (a .r) (now (a .frame)) (now (a .area)) _ (read .wide .result) (read .wide .ensures) (equal .if1 .taken) (c .before .if2 .taken) (put .put .ensures)
-
-add-next-2 : tie.Need-add-next-2
-add-next-2 c = search needs
-
-same-length-2 : tie.Need-same-length-2
-same-length-2 c = search needs
-
 returns-2 : tie.Need-returns-2
 returns-2 c =
-    let put = c .before .before .before .before in
-    let equal = put .before .before in
-    let read = equal .before in
+    let put = c .before .before .before in
+    let tested = put .before .before in
+    let read = tested .before .before in
     let a = read .before .before .before .args in
-    end-complete (a .r) (now (a .frame)) (now (a .area)) _ (read .wide .result) (read .wide .ensures) (equal .if1 .taken) (c .before .if2 .left) (put .put .ensures)
-
-add-next-3 : tie.Need-add-next-3
-add-next-3 c = search needs
-
-put-requires-2 : tie.Need-put-requires-2
-put-requires-2 c κs = search needs
-
-same-length-3 : tie.Need-same-length-3
-same-length-3 c = search needs
-
-returns-3 : tie.Need-returns-3
-returns-3 c =
-    let put = c .before .before in
-    let zero = put .before .before in
-    let other = zero .before .before in
-    let read = other .before in
-    let a = read .before .before .before .args in
-    end-first (a .r) (now (a .frame)) (now (a .area)) _ (read .wide .result) (read .wide .ensures) (other .if1 .left) (zero .if3 .taken) (put .put2 .ensures)
-
-add-next-4 : tie.Need-add-next-4
-add-next-4 c = search needs
-
-returns-4 : tie.Need-returns-4
-returns-4 c =
-    let neither = c .before in
-    let other = neither .before .before in
-    let read = other .before in
-    let a = read .before .before .before .args in
-    end-loose (a .r) (now (a .frame)) (now (a .area)) _ (read .wide .result) (read .wide .ensures) (other .if1 .left) (neither .if3 .left) refl
+    end-stored (a .r) (now (a .frame)) (now (a .area)) _ (read .wide .result) (read .wide .ensures) (c .after-good2 .ensures) (tested .if1 .left)
+    (put .put .ensures)
 
 pub end-good-spec : {M : Type 1} → statement M
 end-good-spec =
@@ -81,17 +60,10 @@ end-good-spec =
     (tie.spec
     element-copy-out-wide
     wide-requires
+    after-good-requires
+    returns
     mul-put
     put-requires
-    add-next
+    after-good-requires-2
     same-length
-    returns
-    add-next-2
-    same-length-2
-    returns-2
-    add-next-3
-    put-requires-2
-    same-length-3
-    returns-3
-    add-next-4
-    returns-4)
+    returns-2)
