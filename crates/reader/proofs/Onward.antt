@@ -3,29 +3,29 @@ use mathlib.Core.Path.{_≡_, refl, sym, ap, _∙_, subst}
 use mathlib.Core.Bool.{Bool, true, false, cond}
 use mathlib.Core.List.{List, [], _∷_}
 use mathlib.Core.Option.{Option, none, some}
-use Prim.Native.Nat.{ℕ, suc, _+_, _*_, _-_, _≤_, _<_, _^_}
+use Prim.Native.Nat.{ℕ, suc, _+_, _*_, _-_, _≤_, _<_}
 use native.Mathlib.Omega.{arith}
-use lib.ListN.{length, drop, getD, set, length-set}
+use lib.ListN.{length, getD, set, length-set}
 use lib.Seq.{sets, getD-set-same}
+use Rattle.base.specs.Format.{SYNC}
 use Rattle.labelling.specs.declared.Framing.{Framing}
 use Rattle.labelling.specs.declared.Groups.{Groups}
 use Rattle.labelling.specs.declared.Runs.{Runs}
 use Rattle.labelling.specs.declared.Tally.{Tally}
 use Rattle.labelling.specs.declared.Word.{Word}
-use Rattle.labelling.specs.Words.{SYNC, byteVote}
+use Rattle.labelling.specs.Words.{byteVote}
 use Rattle.labelling.specs.MajorFrames.{value}
 use Rattle.labelling.specs.Machine.{ByteEvent, afterByte, Now, wordStep, wordGiven, byteEvent, byteStep}
 use Rattle.labelling.specs.Order.{inOrder}
-use Rattle.labelling.specs.Calls.{plus, feed}
 use Rattle.labelling.proofs.Ordered.{ordered, in-order, ordered-byte, bytes-byte}
 use Rattle.labelling.proofs.Feeding.{loop-more, loop-complete}
 use Rattle.quiet.specs.Quiet.{Byte, Quiet}
 use Rattle.nominal.specs.Stretches.{Stored, Hunted, lastOr}
 use Rattle.nominal.specs.Effect.{PlainSteps, stays, byte, withWords, withQuiet, withPlaced, withHunted, afterQuiet}
 use Rattle.nominal.proofs.Effect.{plain-join, plain-feed, plain-ordered, plain-bytes, group-opens, quiet-plain, placed-plain, hunted-plain}
-use Rattle.reader.specs.declared.run.Layers.{Layers}
-use Rattle.reader.specs.Onward.{goesOn, Onward, Words, opened}
-use Rattle.reader.specs.Shapes.{tallyOf}
+use Rattle.plain_steps.specs.declared.layers.Layers.{Layers}
+use Rattle.plain_steps.specs.Shapes.{tallyOf}
+use Rattle.reader.specs.Onward.{Begun, Moment, restFrom, goesOn, Onward, Reaches, Words, opened}
 
 -- ---- a byte
 
@@ -44,29 +44,34 @@ frame-byte t a b = go (wordGiven e)
     go none = refl
     go (some w) = stored (t .framing .hunting) w
 
--- byte i of the piece leaves n
-pub now-onward : (p : List ℕ) (i : ℕ) (t : Tally) (a : List ℕ) (n : Now) → n ≡ byteStep byteVote t a (getD p i 0) → i < length p → inOrder t ≡ true
-    → t .groups .bytes < 2 ^ 40 → length (t .frame) ≡ 128 → Onward p i t a (i + 1) (n .tally) (n .area) (n .complete)
-now-onward p i t a n e h o m l =
-    let b = getD p i 0 in
-    let more : byteStep byteVote t a b .tally .groups .bytes ≡ t .groups .bytes + 1 = bytes-byte byteVote t a b in
-    let bytes : n .tally .groups .bytes ≡ t .groups .bytes + 1 = ap (λ (x : Now). x .tally .groups .bytes) e ∙ more in
+-- where a byte leads: one place on
+abbrev after : ℕ → Now → Moment
+after i n = record { at = i + 1; tally = n .tally; area = n .area }
+
+-- the byte at m leaves n
+pub now-onward : {p : List ℕ} {m : Moment} {n : Now} → n ≡ byteStep byteVote (m .tally) (m .area) (getD p (m .at) 0) → Begun p (m .at) (m .tally)
+    → m .at < length p → Onward p m (after (m .at) n) (n .complete)
+now-onward {p} {m} {n} e b h =
+    let t = m .tally in
+    let x = getD p (m .at) 0 in
+    let more : byteStep byteVote t (m .area) x .tally .groups .bytes ≡ t .groups .bytes + 1 = bytes-byte byteVote t (m .area) x in
+    let bytes : n .tally .groups .bytes ≡ t .groups .bytes + 1 = ap (λ (y : Now). y .tally .groups .bytes) e ∙ more in
+    let still = in-order (byteStep byteVote t (m .area) x .tally) (ordered-byte byteVote t (m .area) x (ordered t (b .order))) (omega arith) in
     record {
       rest = go (n .complete) refl;
-      order = ap (λ (x : Now). inOrder (x .tally)) e ∙ in-order (byteStep byteVote t a b .tally) (ordered-byte byteVote t a b (ordered t o)) (omega arith);
+      order = ap (λ (y : Now). inOrder (y .tally)) e ∙ still;
       bytes-are = omega arith;
       forward = omega arith;
       within = omega arith;
-      frame-length = ap (λ (x : Now). length (x .tally .frame)) e ∙ frame-byte t a b ∙ l;
+      frame-length = ap (λ (y : Now). length (y .tally .frame)) e ∙ frame-byte t (m .area) x ∙ b .frame-length;
     }
   where
-    go : (c : Bool) → n .complete ≡ c → plus i (feed byteVote t a (drop i p)) ≡ goesOn c p (i + 1) (n .tally) (n .area)
-    go true q =
-        subst (λ (x : Now). x .complete ≡ true → plus i (feed byteVote t a (drop i p)) ≡ goesOn true p (i + 1) (x .tally) (x .area)) (sym e)
-        (loop-complete byteVote t a p i h) q
-    go false q =
-        subst (λ (x : Now). x .complete ≡ false → plus i (feed byteVote t a (drop i p)) ≡ goesOn false p (i + 1) (x .tally) (x .area)) (sym e)
-        (loop-more byteVote t a p i h) q
+    leads : Bool → Now → Type 0
+    leads c y = y .complete ≡ c → restFrom p m ≡ goesOn c p (after (m .at) y)
+
+    go : (c : Bool) → leads c n
+    go true = subst (leads true) (sym e) (loop-complete byteVote (m .tally) (m .area) p (m .at) h)
+    go false = subst (leads false) (sym e) (loop-more byteVote (m .tally) (m .area) p (m .at) h)
 
 -- ---- plain steps
 
@@ -79,20 +84,14 @@ module _ {p a : List ℕ} where
   plain-frame stays = refl
   plain-frame {i} {t = t} (byte l e n) = plain-frame n ∙ sym (ap (λ (x : Now). length (x .tally .frame)) e) ∙ frame-byte t a (getD p i 0)
 
--- what a part of a call finds
-pub record Begun (p : List ℕ) (i : ℕ) (t : Tally) : Type 0 where
-  pub order : inOrder t ≡ true
-  pub inside : i ≤ length p
-  pub limit : t .groups .bytes + (length p - i) ≤ 2 ^ 40
-  pub frame-length : length (t .frame) ≡ 128
-
-pub plain-onward : {p a : List ℕ} {i j : ℕ} {t u : Tally} → PlainSteps p a i t j u → Begun p i t → Onward p i t a j u a false
-plain-onward {u = u} n b =
+pub plain-onward : {p : List ℕ} {i j : ℕ} {t u : Tally} → ((a : List ℕ) → PlainSteps p a i t j u) → Begun p i t → Reaches p i t j u
+plain-onward {u = u} s b a =
+    let n = s a in
     let bytes = plain-bytes n in
-    let inside = plain-inside n (b .inside) in
+    let inside = plain-inside n (b .fits .inside) in
     record {
       rest = plain-feed n;
-      order = in-order u (plain-ordered n (ordered _ (b .order))) (omega (arith, b .limit, inside .0, inside .1));
+      order = in-order u (plain-ordered n (ordered _ (b .order))) (omega (arith, b .fits .limit, inside .0, inside .1));
       bytes-are = bytes;
       forward = inside .0;
       within = inside .1;
@@ -101,10 +100,10 @@ plain-onward {u = u} n b =
 
 -- ---- one part after another
 
-pub none-onward : {p a : List ℕ} {i : ℕ} {t : Tally} → Begun p i t → Onward p i t a i t a false
-none-onward b = plain-onward stays b
+pub none-onward : {p : List ℕ} {i : ℕ} {t : Tally} → Begun p i t → Reaches p i t i t
+none-onward b = plain-onward (λ a. stays) b
 
-pub onward-join : {p : List ℕ} {i j k : ℕ} {t u v : Tally} {a a′ a″ : List ℕ} {c : Bool} → Onward p i t a j u a′ false → Onward p j u a′ k v a″ c → Onward p i t a k v a″ c
+pub onward-join : {p : List ℕ} {m n o : Moment} {c : Bool} → Onward p m n false → Onward p n o c → Onward p m o c
 onward-join g h = record {
   rest = g .rest ∙ h .rest;
   order = h .order;
@@ -114,9 +113,20 @@ onward-join g h = record {
   frame-length = h .frame-length;
 }
 
+-- a part that completes a major frame ends the call; the call goes on after any other
+pub onward-ends : {p : List ℕ} {m n : Moment} {c : Bool} → Onward p m n c → c ≡ true → restFrom p m ≡ goesOn true p n
+onward-ends {p} {n = n} g e = g .rest ∙ ap (λ (b : Bool). goesOn b p n) e
+
+pub onward-more : {p : List ℕ} {m n o : Moment} {c : Bool} → Onward p m n false → Onward p n o c → c ≡ false → Onward p m o false
+onward-more {p} {m} {o = o} g h e = subst (λ (b : Bool). Onward p m o b) e (onward-join g h)
+
 -- what the next part finds
-pub onward-begun : {p : List ℕ} {i j : ℕ} {t u : Tally} {a a′ : List ℕ} {c : Bool} → Onward p i t a j u a′ c → Begun p i t → Begun p j u
-onward-begun g b = record { order = g .order; inside = g .within; limit = omega (arith, g .bytes-are, g .forward, g .within, b .limit); frame-length = g .frame-length }
+pub onward-begun : {p : List ℕ} {m n : Moment} {c : Bool} → Onward p m n c → Begun p (m .at) (m .tally) → Begun p (n .at) (n .tally)
+onward-begun g b = record {
+  order = g .order;
+  fits = record { inside = g .within; limit = omega (arith, g .bytes-are, g .forward, g .within, b .fits .limit) };
+  frame-length = g .frame-length;
+}
 
 -- ---- counts added at once
 
@@ -163,43 +173,47 @@ last-stored (x ∷ y ∷ vs) f q h s =
 -- ---- stretches
 
 -- the layers with these parts
-abbrev pub layersOf : Groups → Framing → Runs → Layers
+abbrev layersOf : Groups → Framing → Runs → Layers
 layersOf g f r = record { groups = g; framing = f; runs = r }
 
-module _ (l : Layers) (frame p : List ℕ) (i : ℕ) (b : Begun p i (tallyOf l frame)) (closed : l .groups .«open» ≡ 0) where
-  abbrev t : Tally
-  t = tallyOf l frame
-
+module _ {l : Layers} {frame p : List ℕ} {i : ℕ} (b : Begun p i (tallyOf l frame)) where
   pub placed-words : {j q : ℕ} {frame′ : List ℕ} (s : Stored p i j (l .framing .placed) q frame frame′) (w x : ℕ) → w ≡ q - l .framing .placed
       → l .framing .placed ≤ 127 → (0 < q → x ≡ getD frame′ (q - 1) 0) → Words (s .words) w x
   placed-words {q = q} s w x ew h ex = record {
     count-is = omega (arith, s .place-is);
     last-is = λ z.
-        let n = l .framing .placed in
         let some : 0 < length (s .words) = omega (arith, s .place-is) in
         let room = s .room h in
-        ex (omega (arith, s .place-is)) ∙ rw (s .frame-is, s .place-is) (last-stored (s .words) frame n (omega (arith, s .place-is, b .frame-length)) some);
+        let stored = last-stored (s .words) frame (l .framing .placed) (omega (arith, s .place-is, b .frame-length)) some in
+        ex (omega (arith, s .place-is)) ∙ rw (s .frame-is, s .place-is) stored;
   }
 
-  pub place-onward : {j q : ℕ} {frame′ : List ℕ} (a : List ℕ) (s : Stored p i j (l .framing .placed) q frame frame′) (g : Groups)
-      → l .framing .hunting ≡ false → l .framing .placed ≤ 127 → g ≡ withWords (l .groups) (j - i) (s .words)
-      → Onward p i t a j (tallyOf (layersOf g (withPlaced (l .framing) (length (s .words))) (l .runs)) frame′) a false
-  place-onward {j = j} a s g h r e =
-      rw (e, s .frame-is)
-      (plain-onward (placed-plain {a = a} (s .stretch) t record { closed = closed; places = h; room = omega (arith, s .place-is, s .room r) }) b)
+  -- no group is open
+  module _ (closed : l .groups .«open» ≡ 0) where
+    abbrev t : Tally
+    t = tallyOf l frame
 
-  pub hunt-onward : {j w x : ℕ} (a : List ℕ) (s : Hunted p i j w x) (g : Groups) → l .framing .hunting ≡ true → l .framing .matched ≡ 0
-      → g ≡ withWords (l .groups) (j - i) (s .words) → Onward p i t a j (tallyOf (layersOf g (withHunted (l .framing) w) (l .runs)) frame) a false
-  hunt-onward a s g h m e =
-      rw (e, s .count-is)
-      (plain-onward (hunted-plain {a = a} (s .stretch) t record { closed = closed; hunts = h; unmatched = m; none-begins = s .none-begins }) b)
+    pub place-onward : {j q : ℕ} {frame′ : List ℕ} (s : Stored p i j (l .framing .placed) q frame frame′) {g : Groups}
+        → l .framing .hunting ≡ false → l .framing .placed ≤ 127 → g ≡ withWords (l .groups) (j - i) (s .words)
+        → Reaches p i t j (tallyOf (layersOf g (withPlaced (l .framing) (length (s .words))) (l .runs)) frame′)
+    place-onward s h r e =
+        rw (e, s .frame-is)
+        (plain-onward
+        (λ a. placed-plain {a = a} (s .stretch) t record { closed = closed; places = h; room = omega (arith, s .place-is, s .room r) }) b)
 
-  pub quiet-onward : {j k : ℕ} (a : List ℕ) → Quiet p i j k → (g : Groups) → g ≡ withQuiet (l .groups) (j - i) k
-      → Onward p i t a j (tallyOf (layersOf g (l .framing) (l .runs)) frame) a false
-  quiet-onward a q g e = rw e (plain-onward (quiet-plain {a = a} q t closed) b)
+    pub hunt-onward : {j w x : ℕ} (s : Hunted p i j w x) {g : Groups} → l .framing .hunting ≡ true → l .framing .matched ≡ 0
+        → g ≡ withWords (l .groups) (j - i) (s .words) → Reaches p i t j (tallyOf (layersOf g (withHunted (l .framing) w) (l .runs)) frame)
+    hunt-onward s h m e =
+        rw (e, s .count-is)
+        (plain-onward
+        (λ a. hunted-plain {a = a} (s .stretch) t record { closed = closed; hunts = h; unmatched = m; none-begins = s .none-begins }) b)
 
-  -- and then SYNC and two copies
-  pub opened-onward : {j k x y : ℕ} (a : List ℕ) → Quiet p i j k → Byte p j SYNC → Byte p (j + 1) x → Byte p (j + 2) y → (g : Groups)
-      → g ≡ withQuiet (l .groups) (j - i) k → Onward p i t a (j + 3) (tallyOf (layersOf (opened g x y) (l .framing) (l .runs)) frame) a false
-  opened-onward {j} {k} a q sync x y g e =
-      rw e (plain-onward (plain-join (quiet-plain {a = a} q t closed) (group-opens (afterQuiet t (j - i) k) closed sync x y)) b)
+    pub quiet-onward : {j k : ℕ} {g : Groups} → Quiet p i j k → g ≡ withQuiet (l .groups) (j - i) k
+        → Reaches p i t j (tallyOf (layersOf g (l .framing) (l .runs)) frame)
+    quiet-onward q e = rw e (plain-onward (λ a. quiet-plain {a = a} q t closed) b)
+
+    -- and then SYNC and two copies
+    pub opened-onward : {j k x y : ℕ} {g : Groups} → Quiet p i j k → Byte p j SYNC → Byte p (j + 1) x → Byte p (j + 2) y
+        → g ≡ withQuiet (l .groups) (j - i) k → Reaches p i t (j + 3) (tallyOf (layersOf (opened g x y) (l .framing) (l .runs)) frame)
+    opened-onward {j} {k} q sync x y e =
+        rw e (plain-onward (λ a. plain-join (quiet-plain {a = a} q t closed) (group-opens (afterQuiet t (j - i) k) closed sync x y)) b)

@@ -1,29 +1,74 @@
--- A part of a call: how the rest of the call follows from it. Definitions only.
+-- A part of a call: what it finds, and how the rest of the call follows from it. Definitions only.
 use mathlib.Core.Path.{_≡_}
 use mathlib.Core.Bool.{Bool, true, false}
 use mathlib.Core.List.{List}
-use Prim.Native.Nat.{ℕ, _+_, _≤_, _<_}
+use Prim.Native.Nat.{ℕ, _+_, _-_, _≤_, _<_, _^_}
 use lib.ListN.{length, drop}
+use Rattle.base.specs.Format.{minorFrame}
 use Rattle.labelling.specs.declared.Groups.{Groups}
 use Rattle.labelling.specs.declared.Tally.{Tally}
 use Rattle.labelling.specs.Words.{byteVote}
 use Rattle.labelling.specs.Order.{inOrder}
 use Rattle.labelling.specs.Calls.{Answer, plus, feed}
 use Rattle.nominal.specs.Stretches.{lastOr}
+use Rattle.plain_steps.specs.declared.layers.Layers.{Layers}
+use Rattle.plain_steps.specs.Shapes.{tallyOf}
+use Rattle.reader.specs.declared.run.Ran.{Ran}
 
--- the call ends at j where a major frame is complete, and goes on there where none is
-abbrev pub goesOn : Bool → List ℕ → ℕ → Tally → List ℕ → Answer
-goesOn true p j u a = record { tally = u; area = a; taken = j; complete = true }
-goesOn false p j u a = plus j (feed byteVote u a (drop j p))
+-- ---- what a part finds
 
--- in the piece p, from i to j: the tally t becomes u, and the area a becomes a′
-pub record Onward (p : List ℕ) (i : ℕ) (t : Tally) (a : List ℕ) (j : ℕ) (u : Tally) (a′ : List ℕ) (complete : Bool) : Type 0 where
-  pub rest : plus i (feed byteVote t a (drop i p)) ≡ goesOn complete p j u a′
-  pub order : inOrder u ≡ true
-  pub bytes-are : u .groups .bytes + i ≡ t .groups .bytes + j
-  pub forward : i ≤ j
-  pub within : j ≤ length p
-  pub frame-length : length (u .frame) ≡ 128
+-- place i is in the piece p, and with the rest of p the bytes are not too many
+pub record Fits (g : Groups) (p : List ℕ) (i : ℕ) : Type 0 where
+  pub inside : i ≤ length p
+  pub limit : g .bytes + (length p - i) ≤ 2 ^ 40
+
+-- a part begins at place i of the piece p with the tally t
+pub record Begun (p : List ℕ) (i : ℕ) (t : Tally) : Type 0 where
+  pub order : inOrder t ≡ true
+  pub fits : Fits (t .groups) p i
+  pub frame-length : length (t .frame) ≡ minorFrame
+
+-- ---- what it leaves
+
+-- how far a call has come, with which tally and area
+pub record Moment : Type 0 where
+  pub at : ℕ
+  pub tally : Tally
+  pub area : List ℕ
+
+abbrev pub from : ℕ → Layers → List ℕ → List ℕ → Moment
+from i l frame area = record { at = i; tally = tallyOf l frame; area = area }
+
+abbrev pub ranTo : Ran → List ℕ → List ℕ → Moment
+ranTo r frame area = from (r .at) (r .layers) frame area
+
+-- the call goes on from m
+abbrev pub restFrom : List ℕ → Moment → Answer
+restFrom p m = plus (m .at) (feed byteVote (m .tally) (m .area) (drop (m .at) p))
+
+-- the call ends at m where a major frame is complete, and goes on there where none is
+abbrev pub goesOn : Bool → List ℕ → Moment → Answer
+goesOn true p m = record { tally = m .tally; area = m .area; taken = m .at; complete = true }
+goesOn false p m = restFrom p m
+
+-- a part of a call of the piece p leads from m to n
+pub record Onward (p : List ℕ) (m n : Moment) (complete : Bool) : Type 0 where
+  pub rest : restFrom p m ≡ goesOn complete p n
+  pub order : inOrder (n .tally) ≡ true
+  pub bytes-are : n .tally .groups .bytes + m .at ≡ m .tally .groups .bytes + n .at
+  pub forward : m .at ≤ n .at
+  pub within : n .at ≤ length p
+  pub frame-length : length (n .tally .frame) ≡ minorFrame
+
+-- a stretch leads from t at i to u at j: nothing is complete, and no area is written
+abbrev pub Reaches : List ℕ → ℕ → Tally → ℕ → Tally → Type 0
+Reaches p i t j u = (a : List ℕ) → Onward p (record { at = i; tally = t; area = a }) (record { at = j; tally = u; area = a }) false
+
+-- the same of the layers alone: no frame is written
+abbrev pub ReachesAnyFrame : List ℕ → ℕ → Layers → ℕ → Layers → Type 0
+ReachesAnyFrame p i l j m = (frame : List ℕ) → Begun p i (tallyOf l frame) → Reaches p i (tallyOf l frame) j (tallyOf m frame)
+
+-- ---- counts added at once
 
 -- there are w words, and x is the last of them, if there is one
 pub record Words (ws : List ℕ) (w x : ℕ) : Type 0 where
@@ -32,4 +77,13 @@ pub record Words (ws : List ℕ) (w x : ℕ) : Type 0 where
 
 -- the first layer with a group open whose first copies are x and y
 abbrev pub opened : Groups → ℕ → ℕ → Groups
-opened g x y = record { bytes = g .bytes + 3; fill = g .fill; stray = g .stray; voted = g .voted; split = g .split; «open» = 3; first = x; second = y }
+opened g x y = record {
+  bytes = g .bytes + 3;
+  fill = g .fill;
+  stray = g .stray;
+  voted = g .voted;
+  split = g .split;
+  «open» = 3;
+  first = x;
+  second = y;
+}

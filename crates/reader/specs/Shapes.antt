@@ -4,55 +4,16 @@ use mathlib.Core.Bool.{true, false}
 use mathlib.Core.List.{List}
 use Prim.Native.Nat.{ℕ, _≤_, _<_}
 use lib.ListN.{length}
-use Rattle.labelling.specs.declared.FrameClass.{FrameClass}
-use Rattle.labelling.specs.declared.Framing.{Framing}
-use Rattle.labelling.specs.declared.Runs.{Runs}
 use Rattle.labelling.specs.declared.Tally.{Tally}
-use Rattle.labelling.specs.declared.Word.{Word}
 use Rattle.labelling.specs.Words.{byteVote}
-use Rattle.labelling.specs.Machine.{WordEvent, fills, closes-frame, wordEvent, afterWord, filled, closedEvent, afterFrame, areaAfter, isComplete, Now}
 use Rattle.labelling.specs.Order.{inOrder}
 use Rattle.labelling.specs.Calls.{Call, takeRefusal, Answer, answer}
-use Rattle.reader.specs.declared.major.Ended.{Ended}
-use Rattle.reader.specs.declared.minor.Closing.{Closing}
-use Rattle.reader.specs.declared.minor.Closing.the-variants.{Nothing, Frame}
-use Rattle.reader.specs.declared.minor.Framed.{Framed}
-use Rattle.reader.specs.declared.run.Layers.{Layers}
+use Rattle.plain_steps.specs.Shapes.{tallyOf}
 use Rattle.reader.specs.declared.run.Ran.{Ran}
-use Rattle.reader.specs.declared.run.Stepped.{Stepped}
 use Rattle.reader.specs.declared.Taken.{Taken}
 
--- ---- a word that is placed
-
-abbrev pub eventOf : Closing → WordEvent
-eventOf Nothing = fills
-eventOf (Frame k) = closes-frame k
-
--- the word w goes to the next place: the frame is old before it and new afterwards
-pub record PlacePromise (f : Framing) (w : Word) (old new : List ℕ) (r : Framed) : Type 0 where
-  pub event-is : eventOf (r .closing) ≡ wordEvent f old w
-  pub framing-is : r .framing ≡ afterWord (wordEvent f old w) f w
-  pub frame-is : new ≡ filled f old w
-
--- ---- a frame that is closed
-
--- a frame of class k and these bytes closes: the area is old before it and new afterwards
-pub record EndPromise (r : Runs) (k : FrameClass) (bytes old new : List ℕ) (e : Ended) : Type 0 where
-  pub runs-is : e .runs ≡ afterFrame (closedEvent k bytes (r .building)) r
-  pub area-is : new ≡ areaAfter (closedEvent k bytes (r .building)) bytes old
-  pub complete-is : e .complete ≡ isComplete (closedEvent k bytes (r .building))
-
--- ---- the layers, a piece and a call
-
--- a tally, put together from its layers and its frame
-abbrev pub tallyOf : Layers → List ℕ → Tally
-tallyOf l frame = record { groups = l .groups; framing = l .framing; runs = l .runs; frame = frame }
-
-abbrev pub nowOf : Stepped → List ℕ → List ℕ → Now
-nowOf s frame area = record { tally = tallyOf (s .layers) frame; area = area; complete = s .complete }
-
 abbrev pub ranOf : Ran → List ℕ → List ℕ → Answer
-ranOf r frame area = record { tally = tallyOf (r .layers) frame; area = area; taken = r .taken; complete = r .complete }
+ranOf r frame area = record { tally = tallyOf (r .layers) frame; area = area; taken = r .at; complete = r .complete }
 
 abbrev pub callOf : Tally → List ℕ → List ℕ → Call
 callOf t piece area = record { tally = t; piece = piece; area = area }

@@ -1,9 +1,5 @@
 // Reads an unpacked PCD stream in pieces: voted words, minor frames, major frames, and a tally of every byte (paper 01, "From bytes to
 // words" to "The tally and one call"). The claim about every list of calls is the contract of `fresh`.
-mod groups;
-mod major;
-mod minor;
-mod order;
 mod run;
 mod stretch;
 
@@ -11,21 +7,28 @@ ghost use mathlib.Core.Path.{_≡_};
 ghost use mathlib.Core.Bool.{true};
 ghost use Prim.Native.Nat.{_+_, _≤_, _^_};
 ghost use lib.ListN.{length};
+ghost use Rattle.base.specs.Format.{majorFrame};
 ghost use Rattle.labelling.specs.Words.{byteVote};
 ghost use Rattle.labelling.specs.Once.{FreshPromise};
 ghost use Rattle.labelling.specs.Order.{inOrder};
-ghost use Rattle.reader.specs.Shapes.{tallyOf, callOf, refusedWith, TakePromise};
-pub use groups::vote;
+ghost use Rattle.plain_steps.specs.Shapes.{tallyOf};
+ghost use Rattle.reader.specs.Shapes.{callOf, refusedWith, TakePromise};
+use base::format::MAJOR_FRAME;
+use base::refusal::NOT_IN_ORDER;
+use base::refusal::TOO_MANY_BYTES;
+use base::refusal::WRONG_LENGTH;
 use labelling::Framing;
 use labelling::Groups;
 use labelling::Runs;
 use labelling::Tally;
+use order::LIMIT;
 pub use order::in_order;
-use run::Layers;
+use plain_steps::Layers;
+pub use plain_steps::vote;
 
 // The answer of a call.
 pub struct Taken {
-    // 0, or the number of the refusal: 1, the tally is not in order; 2, the area is not 16,384 bytes; 3, too many bytes.
+    // 0, or the number of the refusal: the tally is not in order, the area has another length than a major frame, or too many bytes.
     pub refusal: u8,
     // How many bytes of the piece were taken: all, or as far as the byte that completes a major frame.
     pub taken: usize,
@@ -76,13 +79,13 @@ pub fn take(t: Tally, piece: &[u8], area: &mut [u8]) -> Taken
     ensures { λ r. ⌜ TakePromise (callOf t (now (piece .entry)) (now (area .entry))) r (now (area .exit)) ⌝ }
 {
     if !in_order(t) {
-        return refused(t, 1);
+        return refused(t, NOT_IN_ORDER);
     }
-    if area.len() != 16384 {
-        return refused(t, 2);
+    if area.len() != MAJOR_FRAME {
+        return refused(t, WRONG_LENGTH);
     }
-    if order::LIMIT - t.groups.bytes < piece.len() as u64 {
-        return refused(t, 3);
+    if LIMIT - t.groups.bytes < piece.len() as u64 {
+        return refused(t, TOO_MANY_BYTES);
     }
     accepted(t, piece, area)
 }
@@ -100,7 +103,7 @@ fn refused(t: Tally, number: u8) -> Taken
 
 // The tally is taken apart once a call.
 fn accepted(t: Tally, piece: &[u8], area: &mut [u8]) -> Taken
-    requires { ⌜ (inOrder t ≡ true) × (length (now area) ≡ 16384) × (t .groups .bytes + length (now piece) ≤ 2 ^ 40) ⌝ }
+    requires { ⌜ (inOrder t ≡ true) × (length (now area) ≡ majorFrame) × (t .groups .bytes + length (now piece) ≤ 2 ^ 40) ⌝ }
     ensures { λ r. ⌜ TakePromise (callOf t (now (piece .entry)) (now (area .entry))) r (now (area .exit)) ⌝ }
 {
     let groups = t.groups;
@@ -117,7 +120,7 @@ fn accepted(t: Tally, piece: &[u8], area: &mut [u8]) -> Taken
     let tally = together(left, frame);
     Taken {
         refusal: 0,
-        taken: r.taken,
+        taken: r.at,
         complete: r.complete,
         tally: tally,
     }

@@ -3,15 +3,14 @@
 ghost use mathlib.Core.Path.{_≡_};
 ghost use mathlib.Core.Bool.{true, false};
 ghost use mathlib.Core.List.{List};
-ghost use Prim.Native.Nat.{ℕ, _+_, _*_, _-_, _≤_, _<_, _^_};
-ghost use lib.ListN.{length, getD};
-ghost use Rattle.labelling.specs.Order.{inOrder};
+ghost use Prim.Native.Nat.{ℕ, _*_, _-_, _≤_, _<_, _^_};
+ghost use lib.ListN.{getD};
 ghost use Rattle.nominal.specs.Effect.{withWords, withQuiet};
-ghost use Rattle.reader.specs.Onward.{Onward, Words, opened as openedWith};
-ghost use Rattle.reader.specs.Room.{GroupsRoom, FramingRoom};
-ghost use Rattle.reader.specs.Shapes.{tallyOf};
-use crate::run::Layers;
+ghost use Rattle.order.specs.Room.{GroupsRoom, FramingRoom};
+ghost use Rattle.plain_steps.specs.Shapes.{tallyOf};
+ghost use Rattle.reader.specs.Onward.{Fits, Begun, Reaches, ReachesAnyFrame, Words, opened as openedWith};
 use labelling::Groups;
+use plain_steps::Layers;
 
 // How far a stretch leads. Nothing is complete there.
 pub(crate) struct Reached {
@@ -74,9 +73,9 @@ fn last_of(frame: &[u8; 128], placed: usize) -> u8
 
 // A nominal stretch while words are placed.
 fn place_run(l: Layers, piece: &[u8], at: usize, frame: &mut [u8; 128]) -> Reached
-    requires { ⌜ (inOrder (tallyOf l (now frame)) ≡ true) × (at ≤ length (now piece)) × (l .groups .bytes + (length (now piece) - at) ≤ 2 ^ 40) ⌝ }
-    requires { ⌜ (l .groups .«open» ≡ 0) × (l .framing .hunting ≡ false) × (length (now frame) ≡ 128) ⌝ }
-    ensures { λ r. ⌜ ((a : List ℕ) → Onward (now (piece .entry)) at (tallyOf l (now (frame .entry))) a (r .at) (tallyOf (r .layers) (now (frame .exit))) a false) ⌝ }
+    requires { ⌜ Begun (now piece) at (tallyOf l (now frame)) ⌝ }
+    requires { ⌜ (l .groups .«open» ≡ 0) × (l .framing .hunting ≡ false) ⌝ }
+    ensures { λ r. ⌜ Reaches (now (piece .entry)) at (tallyOf l (now (frame .entry))) (r .at) (tallyOf (r .layers) (now (frame .exit))) ⌝ }
     ensures { λ r. ⌜ r .layers .groups .«open» ≡ 0 ⌝ }
 {
     let start = l.framing.placed as usize;
@@ -97,9 +96,9 @@ fn place_run(l: Layers, piece: &[u8], at: usize, frame: &mut [u8; 128]) -> Reach
 
 // A nominal stretch while the sync is hunted. Where some of it is matched already, the next word is left to the plain step.
 fn hunt_run(l: Layers, piece: &[u8], at: usize) -> Reached
-    requires { ⌜ GroupsRoom (l .groups) × FramingRoom (l .framing) × (at ≤ length (now piece)) × (l .groups .bytes + (length (now piece) - at) ≤ 2 ^ 40) ⌝ }
+    requires { ⌜ GroupsRoom (l .groups) × FramingRoom (l .framing) × Fits (l .groups) (now piece) at ⌝ }
     requires { ⌜ (l .groups .«open» ≡ 0) × (l .framing .hunting ≡ true) ⌝ }
-    ensures { λ r. ⌜ ((frame a : List ℕ) → inOrder (tallyOf l frame) ≡ true → length frame ≡ 128 → Onward (now (piece .entry)) at (tallyOf l frame) a (r .at) (tallyOf (r .layers) frame) a false) ⌝ }
+    ensures { λ r. ⌜ ReachesAnyFrame (now (piece .entry)) at l (r .at) (r .layers) ⌝ }
     ensures { λ r. ⌜ r .layers .groups .«open» ≡ 0 ⌝ }
 {
     if l.framing.matched != 0 {
@@ -119,9 +118,9 @@ fn hunt_run(l: Layers, piece: &[u8], at: usize) -> Reached
 
 // What is nominal from `at` on. It may be nothing.
 fn nominal_run(l: Layers, piece: &[u8], at: usize, frame: &mut [u8; 128]) -> Reached
-    requires { ⌜ (inOrder (tallyOf l (now frame)) ≡ true) × (at ≤ length (now piece)) × (l .groups .bytes + (length (now piece) - at) ≤ 2 ^ 40) ⌝ }
-    requires { ⌜ (l .groups .«open» ≡ 0) × (length (now frame) ≡ 128) ⌝ }
-    ensures { λ r. ⌜ ((a : List ℕ) → Onward (now (piece .entry)) at (tallyOf l (now (frame .entry))) a (r .at) (tallyOf (r .layers) (now (frame .exit))) a false) ⌝ }
+    requires { ⌜ Begun (now piece) at (tallyOf l (now frame)) ⌝ }
+    requires { ⌜ l .groups .«open» ≡ 0 ⌝ }
+    ensures { λ r. ⌜ Reaches (now (piece .entry)) at (tallyOf l (now (frame .entry))) (r .at) (tallyOf (r .layers) (now (frame .exit))) ⌝ }
     ensures { λ r. ⌜ r .layers .groups .«open» ≡ 0 ⌝ }
 {
     if l.framing.hunting {
@@ -132,9 +131,9 @@ fn nominal_run(l: Layers, piece: &[u8], at: usize, frame: &mut [u8; 128]) -> Rea
 
 // What stands before the next SYNC; and where a whole group follows, that SYNC and two copies.
 fn open_group(l: Layers, piece: &[u8], at: usize) -> Reached
-    requires { ⌜ GroupsRoom (l .groups) × (at ≤ length (now piece)) × (l .groups .bytes + (length (now piece) - at) ≤ 2 ^ 40) ⌝ }
+    requires { ⌜ GroupsRoom (l .groups) × Fits (l .groups) (now piece) at ⌝ }
     requires { ⌜ l .groups .«open» ≡ 0 ⌝ }
-    ensures { λ r. ⌜ ((frame a : List ℕ) → inOrder (tallyOf l frame) ≡ true → length frame ≡ 128 → Onward (now (piece .entry)) at (tallyOf l frame) a (r .at) (tallyOf (r .layers) frame) a false) ⌝ }
+    ensures { λ r. ⌜ ReachesAnyFrame (now (piece .entry)) at l (r .at) (r .layers) ⌝ }
 {
     let skipped = quiet::skip(piece, at);
     let j = skipped.at;
@@ -157,9 +156,8 @@ fn open_group(l: Layers, piece: &[u8], at: usize) -> Reached
 // As far as nothing can close but FILL and nominal groups before the last place: up to the third copy of any other group, a group that is
 // open already, or the last bytes of the piece.
 pub(crate) fn reach(l: Layers, piece: &[u8], at: usize, frame: &mut [u8; 128]) -> Reached
-    requires { ⌜ (inOrder (tallyOf l (now frame)) ≡ true) × (at ≤ length (now piece)) × (l .groups .bytes + (length (now piece) - at) ≤ 2 ^ 40) ⌝ }
-    requires { ⌜ length (now frame) ≡ 128 ⌝ }
-    ensures { λ r. ⌜ ((a : List ℕ) → Onward (now (piece .entry)) at (tallyOf l (now (frame .entry))) a (r .at) (tallyOf (r .layers) (now (frame .exit))) a false) ⌝ }
+    requires { ⌜ Begun (now piece) at (tallyOf l (now frame)) ⌝ }
+    ensures { λ r. ⌜ Reaches (now (piece .entry)) at (tallyOf l (now (frame .entry))) (r .at) (tallyOf (r .layers) (now (frame .exit))) ⌝ }
 {
     if l.groups.open != 0 {
         return Reached { layers: l, at: at };

@@ -1,14 +1,27 @@
 -- `reader::accepted` meets its contract: the tally, taken apart and put together again, is the tally that the run leaves. Assumes nothing.
 use mathlib.Core.Path.{refl}
+use native.Mathlib.Omega.{arith}
 use denote.Ref.{now}
 use Rattle.labelling.proofs.CallLaws.{no-refusal}
-use Rattle.reader.proofs.Steps.{accepted-promise}
+use Rattle.reader.proofs.Answers.{accepted-promise}
 use borrow.Author.Needs.{needs}
 use Rattle.reader.proofs.accepted.Statement.{statement}
 use Rattle.reader.proofs.accepted.Tie as tie
 
+-- the tally's layers are taken out
+abbrev start : tie.After-runs → tie.Start
+start c = c .before .before .before .before .before
+
 run-requires : tie.Need-run-requires
-run-requires c κs = search needs
+run-requires c κs =
+    let s = start (c .before .before .before) in (
+      record {
+        order = s .pre .0;
+        fits = record { inside = omega arith; limit = omega (arith, s .pre .2) };
+        frame-length = search needs;
+      },
+      s .pre .1,
+    )
 
 together-requires : tie.Need-together-requires
 together-requires c κs = search needs
@@ -18,10 +31,11 @@ same-length c = search needs
 
 returns : tie.Need-returns
 returns c =
-    let s = c .before .before .before .before .before .before .before .before .before .before .before .before .before in
+    let ran = c .before .before .before .before in
+    let s = start (ran .before .before .before .before) in
     let a = s .args in
     let q = no-refusal (a .t) (now (a .piece)) (now (a .area)) (s .pre .0) (s .pre .1) (s .pre .2) in
-    accepted-promise (a .t) (now (a .piece)) (now (a .area)) _ (c .before .before .before .before .run .last .1 .1 .1 .0) refl q (rw (c .together .ensures) (c .before .before .before .before .run .ensures))
+    accepted-promise refl q (rw (c .together .ensures) (ran .run .ensures))
 
 pub accepted-spec : {M : Type 1} → statement M
 accepted-spec = tie.close (tie.spec run-requires together-requires same-length returns)

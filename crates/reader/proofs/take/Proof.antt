@@ -9,14 +9,21 @@ use borrow.Author.Tests.{not-true, not-false}
 use Rattle.labelling.specs.Order.{inOrder}
 use Rattle.labelling.proofs.Ordered.{bytes-within}
 use Rattle.labelling.proofs.CallLaws.{not-in-order, wrong-area, too-long}
-use Rattle.reader.proofs.Steps.{refused-promise}
+use Rattle.reader.proofs.Answers.{refused-promise}
 use borrow.Author.Needs.{needs}
 use Rattle.reader.proofs.take.Statement.{statement}
 use Rattle.reader.proofs.take.Tie as tie
 
--- past the first test the tally is in order
-in-order-so : (c : tie.After-in-order) → not (c .in-order .result) ≡ false → inOrder (c .before .before .before .args .t) ≡ true
-in-order-so c e = sym (c .in-order .ensures) ∙ not-false (c .in-order .result) e
+-- past the first test it is known whether the tally is in order
+module _ (c : tie.After-in-order) where
+  abbrev start : tie.Start
+  start = c .before .before .before
+
+  in-order-so : not (c .in-order .result) ≡ false → inOrder (start .args .t) ≡ true
+  in-order-so e = sym (c .in-order .ensures) ∙ not-false (c .in-order .result) e
+
+  out-of-order-so : not (c .in-order .result) ≡ true → inOrder (start .args .t) ≡ false
+  out-of-order-so e = sym (c .in-order .ensures) ∙ not-true (c .in-order .result) e
 
 in-order-requires : tie.Need-in-order-requires
 in-order-requires c κs = search needs
@@ -26,37 +33,43 @@ refused-requires c κs = search needs
 
 returns : tie.Need-returns
 returns c =
-    let a = c .before .before .before .before .before .args in
-    let o = sym (c .before .before .in-order .ensures) ∙ not-true (c .before .before .in-order .result) (c .before .if1 .taken) in
-    refused-promise (a .t) (now (a .piece)) (now (a .area)) 0 (c .refused .result) (c .refused .ensures) (not-in-order (a .t) (now (a .piece)) (now (a .area)) o)
+    let tested = c .before .before in
+    let a = start tested .args in
+    refused-promise (c .refused .ensures) (not-in-order (a .t) (now (a .piece)) (now (a .area)) (out-of-order-so tested (c .before .if1 .taken)))
 
 refused-requires-2 : tie.Need-refused-requires-2
 refused-requires-2 c κs = search needs
 
 returns-2 : tie.Need-returns-2
 returns-2 c =
-    let a = c .before .before .before .before .before .before .args in
-    refused-promise (a .t) (now (a .piece)) (now (a .area)) 1 (c .refused2 .result) (c .refused2 .ensures)
-    (wrong-area (a .t) (now (a .piece)) (now (a .area)) (in-order-so (c .before .before .before) (c .before .before .if1 .left)) (c .before .if2 .taken))
+    let ordered = c .before .before in
+    let o = in-order-so (ordered .before) (ordered .if1 .left) in
+    let a = start (ordered .before) .args in
+    refused-promise (c .refused2 .ensures) (wrong-area (a .t) (now (a .piece)) (now (a .area)) o (c .before .if2 .taken))
 
 sub-if3 : tie.Need-sub-if3
-sub-if3 c = omega (arith, bytes-within (c .before .before .before .before .before .before .args .t) (in-order-so (c .before .before .before) (c .before .before .if1 .left)))
+sub-if3 c =
+    let ordered = c .before .before in
+    omega (arith, bytes-within (start (ordered .before) .args .t) (in-order-so (ordered .before) (ordered .if1 .left)))
 
 refused-requires-3 : tie.Need-refused-requires-3
 refused-requires-3 c κs = search needs
 
 returns-3 : tie.Need-returns-3
 returns-3 c =
-    let a = c .before .before .before .before .before .before .before .before .args in
-    let o = in-order-so (c .before .before .before .before .before) (c .before .before .before .before .if1 .left) in
+    let lengthy = c .before .before .before in
+    let ordered = lengthy .before in
+    let o = in-order-so (ordered .before) (ordered .if1 .left) in
+    let a = start (ordered .before) .args in
     let over : 2 ^ 40 < a .t .groups .bytes + length (now (a .piece)) = omega (arith, bytes-within (a .t) o) in
-    refused-promise (a .t) (now (a .piece)) (now (a .area)) 2 (c .refused3 .result) (c .refused3 .ensures)
-    (too-long (a .t) (now (a .piece)) (now (a .area)) o (c .before .before .before .if2 .left) over)
+    refused-promise (c .refused3 .ensures) (too-long (a .t) (now (a .piece)) (now (a .area)) o (lengthy .if2 .left) over)
 
 accepted-requires : tie.Need-accepted-requires
 accepted-requires c κs =
-    let o = in-order-so (c .before .before .before .before .before) (c .before .before .before .before .if1 .left) in
-    (o, c .before .before .before .if2 .left, omega (arith, bytes-within (c .before .before .before .before .before .before .before .before .args .t) o))
+    let lengthy = c .before .before .before in
+    let ordered = lengthy .before in
+    let o = in-order-so (ordered .before) (ordered .if1 .left) in
+    (o, lengthy .if2 .left, omega (arith, bytes-within (start (ordered .before) .args .t) o))
 
 same-length : tie.Need-same-length
 same-length c = search needs

@@ -1,7 +1,5 @@
 -- `reader::run::one_byte` meets its contract: it is a plain step. Assumes nothing.
 use native.Mathlib.Omega.{arith}
-use denote.Ref.{now}
-use Rattle.reader.specs.Shapes.{tallyOf}
 use Rattle.reader.proofs.Onward.{now-onward}
 use borrow.Author.Needs.{needs}
 use Rattle.reader.proofs.run.one_byte.Statement.{statement}
@@ -21,11 +19,10 @@ same-length c = search needs
 
 returns : tie.Need-returns
 returns c =
-    let s = c .before .before .before .before .before .before .before .before .before in
-    let a = s .args in
-    let x = c .before .before .before .byte-step in
-    (now-onward (now (a .piece)) (a .at) (tallyOf (a .l) (now (a .frame))) (now (a .area)) _ (x .ensures) (s .pre .0 .1) (s .pre .0 .0) (omega arith) (s .pre .1 .1), omega arith)
+    let stepped = c .before .before .before in
+    let read = stepped .before .before .before in
+    let s = read .before .before .before in
+    (now-onward (stepped .byte-step .ensures) (s .pre .0) (s .pre .1), omega arith)
 
 pub one-byte-spec : {M : Type 1} → statement M
-one-byte-spec =
-    tie.close (tie.spec shared-slice-read-byte-step byte-step-requires add-t13 same-length returns)
+one-byte-spec = tie.close (tie.spec shared-slice-read-byte-step byte-step-requires add-t13 same-length returns)

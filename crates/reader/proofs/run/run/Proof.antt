@@ -1,33 +1,28 @@
--- `reader::run::run` meets its contract: at each turn the rest of the run is the whole run, and the tally is in order. Assumes nothing.
+-- `reader::run::run` meets its contract: at each turn a part of the call leads from its begin to here. Assumes nothing.
 use native.Mathlib.Omega.{arith}
-use mathlib.Core.Path.{_≡_, sym, ap, _∙_}
-use mathlib.Core.Bool.{Bool, true}
+use mathlib.Core.Path.{_≡_, sym, _∙_}
+use mathlib.Core.Bool.{false}
 use mathlib.Core.List.{List}
-use Prim.Native.Nat.{ℕ, _+_, _-_, _≤_}
-use lib.ListN.{length, drop}
+use Prim.Native.Nat.{ℕ, _-_}
+use lib.ListN.{length}
 use denote.Ref.{now}
+use Rattle.base.specs.Format.{majorFrame}
 use Rattle.labelling.specs.Words.{byteVote}
-use Rattle.labelling.specs.Order.{inOrder}
-use Rattle.labelling.specs.Calls.{plus, feed}
 use Rattle.labelling.proofs.Feeding.{loop-start, loop-end}
-use Rattle.reader.specs.declared.run.Layers.{Layers}
-use Rattle.reader.specs.Onward.{goesOn}
-use Rattle.reader.specs.Shapes.{tallyOf}
+use Rattle.plain_steps.specs.Shapes.{tallyOf}
+use Rattle.reader.specs.Onward.{Moment, from, Onward}
+use Rattle.reader.proofs.Onward.{none-onward, onward-join, onward-ends, onward-more, onward-begun}
 use borrow.Author.Needs.{needs}
 use Rattle.reader.proofs.run.run.Statement.{statement}
 use Rattle.reader.proofs.run.run.Tie as tie
 
--- begun with the layers l₀, their frame and the area, i bytes of the piece are taken, and `l`, `frame` and `area` are left
-record Running (piece frame₀ area₀ : List ℕ) (l₀ : Layers) (frame area : List ℕ) (l : Layers) (i : ℕ) : Type 0 where
-  rest : feed byteVote (tallyOf l₀ frame₀) area₀ piece ≡ plus i (feed byteVote (tallyOf l frame) area (drop i piece))
-  order : inOrder (tallyOf l frame) ≡ true
-  bytes-are : l .groups .bytes ≡ l₀ .groups .bytes + i
-  within : i ≤ length piece
-  area-length : length area ≡ 16384
-  frame-length : length frame ≡ 128
+-- begun at m₀, the call has come to m
+record Running (piece : List ℕ) (m₀ m : Moment) : Type 0 where
+  so-far : Onward piece m₀ m false
+  area-length : length (m .area) ≡ majorFrame
 
 abbrev Inv-loop : tie.InvT-loop
-Inv-loop piece frame₀ area₀ next₀ i₀ frame area next i = Running piece frame₀ area₀ next₀ frame area next i
+Inv-loop piece frame₀ area₀ next₀ i₀ frame area next i = Running piece (from 0 next₀ frame₀ area₀) (from i next frame area)
 
 abbrev μ-loop : tie.MeasureT-loop
 μ-loop piece frame₀ area₀ next₀ i₀ frame area next i = length piece - i
@@ -35,32 +30,26 @@ abbrev μ-loop : tie.MeasureT-loop
 loop-holds : tie.Need-loop-holds Inv-loop μ-loop
 loop-holds c =
     let s = c .before .before in
-    let t = tallyOf (s .args .l) (now (s .args .frame)) in
-    record {
-      rest = loop-start byteVote t (now (s .args .area)) (now (s .args .piece));
-      order = s .pre .0 .0;
-      bytes-are = omega arith;
-      within = omega arith;
-      area-length = s .pre .1 .0;
-      frame-length = s .pre .1 .1;
-    }
+    record { so-far = none-onward (s .pre .0) (now (s .args .area)); area-length = s .pre .1 }
 
 advance-requires : tie.Need-advance-requires Inv-loop μ-loop
 advance-requires c κs =
-    let s = c .before .before .before .before .before .before in
-    let k = c .before .before .before .loop .inv in
-    ((k .order, c .before .before .loop-test .taken, omega (arith, k .bytes-are, s .pre .0 .1)), (k .area-length, k .frame-length))
+    let turn = c .before .before in
+    let k = turn .before in
+    let s = k .before .before .before in
+    (onward-begun (k .loop .inv .so-far) (s .pre .0), turn .loop-test .taken, k .loop .inv .area-length)
 
 same-length : tie.Need-same-length Inv-loop μ-loop
 same-length c = search needs
 
 returns : tie.Need-returns Inv-loop μ-loop
 returns c =
-    let k = c .before .before .before .before .before .before .before .before .loop in
-    let p = now (c .before .before .before .before .before .before .before .before .before .before .before .args .piece) in
-    let x = c .before .before .before .before .advance in
-    let o = x .ensures .0 in
-    sym (k .inv .rest ∙ o .rest ∙ ap (λ (b : Bool). goesOn b p (x .result .taken) (tallyOf (x .result .layers) (x .last .1 .1 .1 .0)) (x .last .1 .1 .1 .1 .0)) (c .if1 .taken))
+    let advanced = c .before .before .before .before in
+    let k = advanced .before .before .before .before in
+    let a = k .before .before .before .args in
+    sym
+    (loop-start byteVote (tallyOf (a .l) (now (a .frame))) (now (a .area)) (now (a .piece))
+    ∙ onward-ends (onward-join (k .loop .inv .so-far) (advanced .advance .ensures .0)) (c .if1 .taken))
 
 loop-less : tie.Need-loop-less Inv-loop μ-loop
 loop-less c =
@@ -69,17 +58,12 @@ loop-less c =
 
 loop-again : tie.Need-loop-again Inv-loop μ-loop
 loop-again c =
-    let k = c .before .before .before .before .before .before .before .before .loop in
-    let p = now (c .before .before .before .before .before .before .before .before .before .before .before .args .piece) in
-    let x = c .before .before .before .before .advance in
-    let o = x .ensures .0 in
+    let advanced = c .before .before .before .before in
+    let k = advanced .before .before .before .before .loop in
+    let x = advanced .advance in
     record {
-      rest = k .inv .rest ∙ o .rest ∙ ap (λ (b : Bool). goesOn b p (x .result .taken) (tallyOf (x .result .layers) (x .last .1 .1 .1 .0)) (x .last .1 .1 .1 .1 .0)) (c .if1 .left);
-      order = o .order;
-      bytes-are = omega (arith, o .bytes-are, k .inv .bytes-are);
-      within = o .within;
+      so-far = onward-more (k .inv .so-far) (x .ensures .0) (c .if1 .left);
       area-length = x .kept .1 .1 .1 .1 .0 ∙ k .inv .area-length;
-      frame-length = o .frame-length;
     }
 
 same-length-2 : tie.Need-same-length-2 Inv-loop μ-loop
@@ -88,8 +72,11 @@ same-length-2 c = search needs
 returns-2 : tie.Need-returns-2 Inv-loop μ-loop
 returns-2 c =
     let k = c .before .loop in
-    let p = now (c .before .before .before .before .args .piece) in
-    sym (k .inv .rest ∙ loop-end byteVote (tallyOf (k .next) (k .frame)) (k .area) p (k .i) (omega arith))
+    let a = c .before .before .before .before .args in
+    let p = now (a .piece) in
+    sym
+    (loop-start byteVote (tallyOf (a .l) (now (a .frame))) (now (a .area)) p ∙ k .inv .so-far .rest
+    ∙ loop-end byteVote (tallyOf (k .next) (k .frame)) (k .area) p (k .i) (omega arith))
 
 pub run-spec : {M : Type 1} → statement M
 run-spec =

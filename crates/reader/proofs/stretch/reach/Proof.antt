@@ -1,31 +1,36 @@
 -- `reader::stretch::reach` meets its contract: a nominal stretch, and then the first bytes of a group. Assumes nothing.
 use denote.Ref.{now}
-use Rattle.reader.proofs.Steps.{room-groups}
-use Rattle.reader.proofs.Onward.{onward-begun, onward-join}
+use Rattle.order.proofs.Rooms.{tally-room}
+use Rattle.plain_steps.specs.Shapes.{tallyOf}
+use Rattle.reader.specs.Onward.{Begun}
+use Rattle.reader.proofs.Onward.{none-onward, onward-begun, onward-join}
 use borrow.Author.Needs.{needs}
 use Rattle.reader.proofs.stretch.reach.Statement.{statement}
 use Rattle.reader.proofs.stretch.reach.Tie as tie
 
+-- what the group finds
+module _ (c : tie.After-nominal-run) where
+  abbrev start : tie.Start
+  start = c .before .before .before .before .before
+
+  begun : Begun (now (start .args .piece)) (c .nominal-run .result .at) (tallyOf (c .nominal-run .result .layers) (c .nominal-run .last .1 .1 .1 .0))
+  begun = onward-begun (c .nominal-run .ensures .0 (now (start .args .frame))) (start .pre)
+
 returns : tie.Need-returns
-returns c = search needs
+returns c = none-onward (c .before .before .before .pre)
 
 nominal-run-requires : tie.Need-nominal-run-requires
 nominal-run-requires c κs = search needs
 
 open-group-requires : tie.Need-open-group-requires
 open-group-requires c κs =
-    let s = c .before .before .before .before .before .before in
-    let n = c .before .nominal-run .ensures in
-    let b = onward-begun (n .0 (now (s .args .frame))) record { order = s .pre .0 .0; inside = s .pre .0 .1; limit = s .pre .0 .2; frame-length = s .pre .1 } in
-    ((room-groups _ _ (b .order), b .inside, b .limit), n .1)
+    let b = begun (c .before) in
+    ((tally-room _ (b .order) .in-groups, b .fits), c .before .nominal-run .ensures .1)
 
 returns-2 : tie.Need-returns-2
 returns-2 c =
-    let s = c .before .before .before .before .before .before .before in
-    let n = c .before .before .nominal-run .ensures .0 in
-    λ a.
-    let b = onward-begun (n a) record { order = s .pre .0 .0; inside = s .pre .0 .1; limit = s .pre .0 .2; frame-length = s .pre .1 } in
-    onward-join (n a) (c .open-group .ensures _ a (b .order) (b .frame-length))
+    let ran = c .before .before in
+    λ a. onward-join (ran .nominal-run .ensures .0 a) (c .open-group .ensures _ (begun ran) a)
 
 pub reach-spec : {M : Type 1} → statement M
 reach-spec = tie.close (tie.spec returns nominal-run-requires open-group-requires returns-2)

@@ -1,0 +1,86 @@
+// Whether a tally is in order (paper 01, "The tally and one call"). The tests are joined by `&` and `|`, which do not branch, in the order of
+// the definition.
+ghost use mathlib.Core.Path.{_≡_};
+ghost use Rattle.labelling.specs.Order.{groupsBounded, framingBounded, framingModes, runsBounded, bytesSum, wordsSum, framesSum, sumsHold, inOrder};
+ghost use Rattle.order.specs.Room.{GroupsRoom, FramingRoom, RunsRoom, TallyRoom};
+use labelling::Framing;
+use labelling::Groups;
+use labelling::Runs;
+use labelling::Tally;
+
+// No count is above 2^40.
+pub const LIMIT: u64 = 1 << 40;
+
+fn groups_bounded(g: Groups) -> bool
+    ensures { λ r. ⌜ r ≡ groupsBounded g ⌝ }
+{
+    (g.bytes <= LIMIT)
+        & (g.fill <= LIMIT)
+        & (g.stray <= LIMIT)
+        & (g.voted <= LIMIT)
+        & (g.split <= LIMIT)
+        & (g.open <= 3)
+}
+
+fn framing_bounded(f: Framing) -> bool
+    ensures { λ r. ⌜ r ≡ framingBounded f ⌝ }
+{
+    (f.hunted <= LIMIT)
+        & (f.good <= LIMIT)
+        & (f.damaged <= LIMIT)
+        & (f.unsynced <= LIMIT)
+        & (f.placed <= 127)
+        & (f.matched <= 2)
+}
+
+fn framing_modes(f: Framing) -> bool
+    ensures { λ r. ⌜ r ≡ framingModes f ⌝ }
+{
+    (f.hunting | (f.matched == 0)) & (!f.hunting | (f.placed == 0)) & ((f.placed != 0) | !f.erasure)
+}
+
+fn runs_bounded(r: Runs) -> bool
+    ensures { λ x. ⌜ x ≡ runsBounded r ⌝ }
+{
+    (r.majors <= LIMIT) & (r.broken <= LIMIT) & (r.loose <= LIMIT) & (r.building <= 127)
+}
+
+fn bytes_sum(g: Groups) -> bool
+    requires { ⌜ GroupsRoom g ⌝ }
+    ensures { λ r. ⌜ r ≡ bytesSum g ⌝ }
+{
+    g.bytes == g.fill + g.stray + 4 * g.voted + 4 * g.split + g.open
+}
+
+fn words_sum(words: u64, f: Framing) -> bool
+    requires { ⌜ FramingRoom f ⌝ }
+    ensures { λ r. ⌜ r ≡ wordsSum words f ⌝ }
+{
+    words == f.hunted + 128 * (f.good + f.damaged + f.unsynced) + f.placed
+}
+
+fn frames_sum(good: u64, r: Runs) -> bool
+    requires { ⌜ RunsRoom r ⌝ }
+    ensures { λ x. ⌜ x ≡ framesSum good r ⌝ }
+{
+    good == 128 * r.majors + r.broken + r.loose + r.building
+}
+
+// The sums, where the counts are known to be within the limit.
+fn sums(t: Tally) -> bool
+    requires { ⌜ TallyRoom t ⌝ }
+    ensures { λ r. ⌜ r ≡ sumsHold t ⌝ }
+{
+    let words = t.groups.voted + t.groups.split;
+    bytes_sum(t.groups) & words_sum(words, t.framing) & frames_sum(t.framing.good, t.runs)
+}
+
+pub fn in_order(t: Tally) -> bool
+    ensures { λ r. ⌜ r ≡ inOrder t ⌝ }
+{
+    let bounded = groups_bounded(t.groups) & framing_bounded(t.framing) & runs_bounded(t.runs);
+    if !bounded {
+        return false;
+    }
+    framing_modes(t.framing) & sums(t) & (!t.framing.hunting | (t.runs.building == 0))
+}

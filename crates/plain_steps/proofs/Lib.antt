@@ -1,0 +1,3 @@
+mod Placed
+mod Closed
+mod Joined

@@ -1,0 +1,85 @@
+// The three layers joined: what a word does, and what a byte does.
+ghost use mathlib.Core.Path.{_≡_};
+ghost use mathlib.Core.Bool.{true};
+ghost use mathlib.Core.Option.{some};
+ghost use Rattle.labelling.specs.Words.{byteVote};
+ghost use Rattle.labelling.specs.Machine.{wordStep, byteStep};
+ghost use Rattle.labelling.specs.Order.{inOrder};
+ghost use Rattle.order.specs.Room.{FramingRoom, RunsRoom};
+ghost use Rattle.plain_steps.specs.Shapes.{Lent, tallyOf, nowOf};
+use crate::groups;
+use crate::major;
+use crate::minor;
+use crate::minor::Closing;
+use crate::votes;
+use labelling::Framing;
+use labelling::Groups;
+use labelling::Runs;
+use labelling::Word;
+
+// A tally without its frame, which is lent beside it: so a byte copies counts and no frame.
+pub struct Layers {
+    pub groups: Groups,
+    pub framing: Framing,
+    pub runs: Runs,
+}
+
+pub struct Stepped {
+    pub layers: Layers,
+    // Whether a major frame is complete; the area holds it.
+    pub complete: bool,
+}
+
+// A word that a closed group gave.
+fn word_step(l: Layers, w: Word, frame: &mut [u8; 128], area: &mut [u8]) -> Stepped
+    requires { ⌜ FramingRoom (l .framing) × RunsRoom (l .runs) ⌝ }
+    requires { ⌜ Lent (now frame) (now area) ⌝ }
+    ensures { λ r. ⌜ nowOf r (now (frame .exit)) (now (area .exit)) ≡ wordStep (some w) (l .groups) (tallyOf l (now (frame .entry))) (now (area .entry)) ⌝ }
+{
+    let mut next = l;
+    if l.framing.hunting {
+        next.framing = minor::hunt(l.framing, w);
+        return Stepped {
+            layers: next,
+            complete: false,
+        };
+    }
+    let framed = minor::place(l.framing, w, frame);
+    let f = framed.framing;
+    next.framing = f;
+    let closing = framed.closing;
+    match closing {
+        Closing::Nothing => Stepped {
+            layers: next,
+            complete: false,
+        },
+        Closing::Frame(class) => {
+            let ended = major::end_frame(l.runs, class, frame, area);
+            let r = ended.runs;
+            next.runs = r;
+            Stepped {
+                layers: next,
+                complete: ended.complete,
+            }
+        }
+    }
+}
+
+// A byte. A leaf for the reader: the tally is in order, and what is lent has its length.
+pub fn byte_step(l: Layers, b: u8, frame: &mut [u8; 128], area: &mut [u8]) -> Stepped
+    requires { ⌜ inOrder (tallyOf l (now frame)) ≡ true ⌝ }
+    requires { ⌜ Lent (now frame) (now area) ⌝ }
+    ensures { λ r. ⌜ nowOf r (now (frame .exit)) (now (area .exit)) ≡ byteStep byteVote (tallyOf l (now (frame .entry))) (now (area .entry)) b ⌝ }
+{
+    let mut next = l;
+    if l.groups.open < 3 {
+        next.groups = groups::open_byte(l.groups, b);
+        return Stepped {
+            layers: next,
+            complete: false,
+        };
+    }
+    let w = votes::vote(l.groups.first, l.groups.second, b);
+    next.groups = groups::close_group(l.groups, w);
+    word_step(next, w, frame, area)
+}
