@@ -101,6 +101,10 @@ fn read_stream(stream: &[u8], piece: usize, area: &mut [u8]) -> Reading
         let t = r.tally;
         let s = feeding::step(t, stream, at, piece, &mut *area);
         r = stepped(r, s, &mut *area);
+        let a = s.taken;
+        if a.refusal != 0 {
+            return r;
+        }
         at = s.at;
     }
     r

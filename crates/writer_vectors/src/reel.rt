@@ -153,6 +153,9 @@ fn read_reel(reel: &[u8], frames: &[u8], piece: usize, area: &mut [u8]) -> Readi
         let s = feeding::step(t, reel, at, piece, &mut *area);
         let a = s.taken;
         r = answered(r, a, frames, &*area);
+        if a.refusal != 0 {
+            return r;
+        }
         at = s.at;
     }
     r
