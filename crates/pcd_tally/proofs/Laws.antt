@@ -27,7 +27,8 @@ use Rattle.feeding.proofs.CallLists.{handed-append, joined-append, joined-none}
 use Rattle.pcd_tally.specs.declared.Input.{Input}
 use Rattle.pcd_tally.specs.declared.Input.the-variants.{More, Ended, Unreadable, TooLong}
 use Rattle.pcd_tally.specs.declared.State.{State}
-use Rattle.pcd_tally.specs.Reading.{blank, ReadSoFar, brought, tooMany, takenOf, inputAfter, Carried, FedPromise, TookPromise, TurnPromise, isMore, AllPromise}
+use Rattle.pcd_tally.specs.Reading.{blank, ReadSoFar, brought, tooMany, takenOf, inputAfter}
+use Rattle.pcd_tally.specs.Reading.{Carried, FedPromise, TookPromise, TurnPromise, isMore, AllPromise}
 
 -- nothing is read yet
 pub nothing-read : (t : Tally) → t ≡ fresh → ReadSoFar 0 t blank

@@ -39,7 +39,8 @@ returns c =
 
 same-length-2 : tie.Need-same-length-2 Inv-loop μ-loop
 same-length-2 c =
-    let w = c .before .before .before .before .before .before in
+    let accepted = c .before .before in
+    let w = accepted .before .before .before .before in
     kept w ∙ turn w .loop .inv .1
 
 returns-2 : tie.Need-returns-2 Inv-loop μ-loop

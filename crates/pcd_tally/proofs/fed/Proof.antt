@@ -22,12 +22,14 @@ same-length c = search needs
 
 returns : tie.Need-returns
 returns c =
-    let w = c .before .before .before .before .before in
+    let answered = c .before .before in
+    let w = answered .before .before .before in
     piece-refused _ _ _ _ _ (start w .pre) (w .feed .ensures) (c .if1 .taken)
 
 add-t12 : tie.Need-add-t12
 add-t12 c =
-    let w = c .before .before .before .before .before .before in
+    let accepted = c .before .before in
+    let w = accepted .before .before .before .before in
     let s = start w in
     let few = within-limit (s .pre) in
     let more : w .feed .result .taken ≤ length (now (s .args .piece)) = taken-within _ _ _ _ (w .feed .ensures) in
@@ -38,7 +40,8 @@ same-length-2 c = search needs
 
 returns-2 : tie.Need-returns-2
 returns-2 c =
-    let w = c .before .before .before .before .before .before in
+    let accepted = c .before .before in
+    let w = accepted .before .before .before .before in
     piece-taken _ _ _ _ _ (start w .pre) (w .feed .ensures) (c .before .if1 .left)
 
 pub fed-spec : {M : Type 1} → statement M

@@ -19,11 +19,13 @@ fresh-requires c κs = tt
 probe-requires : tie.Need-probe-requires Inv-loop μ-loop
 probe-requires c κs = c .before .before .before .before .pre
 
+-- the start, from the first probe
+module _ (probed : tie.After-probe Inv-loop μ-loop) where
+  abbrev before-probe : tie.Start Inv-loop μ-loop
+  before-probe = probed .before .before .before .before .before
+
 loop-holds : tie.Need-loop-holds Inv-loop μ-loop
-loop-holds c =
-    let probed = c .before .before in
-    let start = probed .before .before .before .before .before in
-    probed .probe .kept .1 .0 ∙ start .pre
+loop-holds c = let probed = c .before .before in probed .probe .kept .1 .0 ∙ before-probe probed .pre
 
 step-requires : tie.Need-step-requires Inv-loop μ-loop
 step-requires c κs = tt
@@ -49,9 +51,8 @@ stepped-requires c κs = step-kept (c .before .before .before)
 same-length : tie.Need-same-length Inv-loop μ-loop
 same-length c =
     let v = c .before .before .before .before .before in
-    let looped = turn (after-step v) .before in
-    let start = looped .before .before .before .before .before .before .before .before in
-    report-kept v ∙ sym (start .pre)
+    let probed = turn (after-step v) .before .before .before .before in
+    report-kept v ∙ sym (before-probe probed .pre)
 
 returns : tie.Need-returns Inv-loop μ-loop
 returns c = tt
@@ -66,8 +67,8 @@ loop-again c = report-kept (c .before .before .before .before .before)
 
 same-length-2 : tie.Need-same-length-2 Inv-loop μ-loop
 same-length-2 c =
-    let start = c .before .before .before .before .before .before .before .before .before in
-    c .before .loop .inv ∙ sym (start .pre)
+    let probed = c .before .before .before .before in
+    c .before .loop .inv ∙ sym (before-probe probed .pre)
 
 returns-2 : tie.Need-returns-2 Inv-loop μ-loop
 returns-2 c = tt
