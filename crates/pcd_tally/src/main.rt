@@ -2,6 +2,8 @@
 // bytes, or the tally cannot be written, a line on standard error says so, and no tally is written.
 mod text;
 
+ghost use mathlib.Core.Path.{_≡_};
+ghost use Rattle.pcd_tally.specs.Reading.{blank, ReadSoFar, FedPromise, TookPromise, TurnPromise, TallyOf, isMore, AllPromise};
 use labelling::Tally;
 use libc::STDERR_FILENO;
 use libc::STDIN_FILENO;
@@ -17,6 +19,8 @@ enum Input {
 
 struct State {
     tally: Tally,
+    // How many bytes were read, as the reads counted them.
+    read: u64,
     input: Input,
 }
 
@@ -24,10 +28,10 @@ fn main() {
     let state = read_all();
     let input = state.input;
     match input {
-        Input::More => complain(b"pcd_tally: standard input does not end\n"),
-        Input::Ended => report(state.tally),
-        Input::Unreadable => complain(b"pcd_tally: standard input cannot be read\n"),
+        Input::Ended => report(state.tally, state.read),
         Input::TooLong => complain(b"pcd_tally: standard input has more than 2^40 bytes\n"),
+        // There is never more: the reading goes on then.
+        Input::Unreadable | Input::More => complain(b"pcd_tally: standard input cannot be read\n"),
     }
 }
 
@@ -35,34 +39,45 @@ fn complain(line: &[u8]) {
     io::write_all(STDERR_FILENO, line);
 }
 
-fn report(t: Tally) {
+// The tally of so many bytes.
+fn report(t: Tally, read: u64)
+    requires { ⌜ TallyOf read t ⌝ }
+{
     if !text::show(STDOUT_FILENO, t) {
         complain(b"pcd_tally: standard output cannot be written\n");
     }
 }
 
-fn read_all() -> State {
+fn begun() -> State
+    ensures { λ r. ⌜ ReadSoFar (r .read) (r .tally) blank ⌝ }
+{
+    State {
+        tally: reader::fresh(),
+        read: 0,
+        input: Input::More,
+    }
+}
+
+// Each read but the last brings a byte or more, and the tally takes 2^40 at most: so the reading ends.
+fn read_all() -> State
+    ensures { λ r. ⌜ AllPromise r ⌝ }
+{
     let mut buffer_space = io::large_buffer();
     let buffer: &mut [u8] = &mut buffer_space;
     let mut area_space = [0u8; 16384];
     let area: &mut [u8] = &mut area_space;
-    let mut state = State {
-        tally: reader::fresh(),
-        input: Input::More,
-    };
-    // Each turn but the last reads a byte or more, so 2^40 turns are more than enough.
-    let mut turns: u64 = 1 << 41;
-    while turns > 0 {
+    let mut state = begun();
+    loop {
         state = turn(state, &mut *buffer, &mut *area);
         if !goes_on(state) {
             return state;
         }
-        turns -= 1;
     }
-    state
 }
 
-fn goes_on(s: State) -> bool {
+fn goes_on(s: State) -> bool
+    ensures { λ r. ⌜ r ≡ isMore (s .input) ⌝ }
+{
     let input = s.input;
     match input {
         Input::More => true,
@@ -73,43 +88,56 @@ fn goes_on(s: State) -> bool {
 }
 
 // One read, and what it brought.
-fn turn(s: State, buffer: &mut [u8], area: &mut [u8]) -> State {
-    let tally = s.tally;
+fn turn(s: State, buffer: &mut [u8], area: &mut [u8]) -> State
+    requires { ⌜ ReadSoFar (s .read) (s .tally) (now area) ⌝ }
+    ensures { λ r. ⌜ TurnPromise s (now (buffer .exit)) (now (area .entry)) r (now (area .exit)) ⌝ }
+{
     let got = libc::read(STDIN_FILENO, buffer);
+    took(s, got, buffer, area)
+}
+
+// What a read brought that answered so.
+fn took(s: State, got: isize, buffer: &[u8], area: &mut [u8]) -> State
+    requires { ⌜ ReadSoFar (s .read) (s .tally) (now area) ⌝ }
+    ensures { λ r. ⌜ TookPromise s got (now (buffer .entry)) (now (area .entry)) r (now (area .exit)) ⌝ }
+{
+    let tally = s.tally;
     if got < 0 {
         return State {
             tally: tally,
+            read: s.read,
             input: Input::Unreadable,
         };
     }
-    if got == 0 {
+    let n = io::count(got, buffer);
+    if n == 0 {
         return State {
             tally: tally,
+            read: s.read,
             input: Input::Ended,
         };
     }
-    let n = io::count(got, buffer);
-    feed(tally, &buffer[0..n], area)
+    fed(s, &buffer[..n], area)
 }
 
-// The whole piece: a call stops at each major frame that is complete, and the next goes on from there.
-fn feed(t: Tally, piece: &[u8], area: &mut [u8]) -> State {
-    let mut tally = t;
-    let mut at: usize = 0;
-    while at < piece.len() {
-        let s = feeding::step(tally, piece, at, piece.len(), area);
-        let r = s.taken;
-        tally = r.tally;
-        if r.refusal != 0 {
-            return State {
-                tally: tally,
-                input: Input::TooLong,
-            };
-        }
-        at = s.at;
+// A piece of the input: all of it is taken, unless it takes the tally above its limit.
+fn fed(s: State, piece: &[u8], area: &mut [u8]) -> State
+    requires { ⌜ ReadSoFar (s .read) (s .tally) (now area) ⌝ }
+    ensures { λ r. ⌜ FedPromise s (now (piece .entry)) (now (area .entry)) r (now (area .exit)) ⌝ }
+{
+    let t = s.tally;
+    let f = feeding::feed(t, piece, area);
+    let u = f.tally;
+    if f.refusal != 0 {
+        return State {
+            tally: u,
+            read: s.read,
+            input: Input::TooLong,
+        };
     }
     State {
-        tally: tally,
+        tally: u,
+        read: s.read + f.taken as u64,
         input: Input::More,
     }
 }

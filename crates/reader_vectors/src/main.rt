@@ -5,6 +5,8 @@ mod report;
 ghost use mathlib.Core.Path.{_≡_};
 ghost use Prim.Native.Nat.{_≤_};
 ghost use lib.ListN.{length};
+use base::format::MAJOR_FRAME;
+use base::refusal::WRONG_LENGTH;
 use feeding::Stepped;
 use labelling::Tally;
 use reader::Taken;
@@ -101,6 +103,10 @@ fn read_stream(stream: &[u8], piece: usize, area: &mut [u8]) -> Reading
         let t = r.tally;
         let s = feeding::step(t, stream, at, piece, &mut *area);
         r = stepped(r, s, &mut *area);
+        let a = s.taken;
+        if a.refusal != 0 {
+            return r;
+        }
         at = s.at;
     }
     r
@@ -128,7 +134,7 @@ fn probe(r: Reading, area: &mut [u8]) -> Reading
     let taken = reader::take(t, &piece[0..0], area);
     let next = answered(r, taken);
     let u = next.tally;
-    let answer = reader::take(u, &piece, &mut area[1..16384]);
+    let answer = reader::take(u, &piece, &mut area[1..MAJOR_FRAME]);
     refused(next, answer)
 }
 
@@ -172,7 +178,7 @@ fn refused(r: Reading, a: Taken) -> Reading {
 }
 
 fn is_refused(a: Taken) -> bool {
-    if a.refusal != 2 {
+    if a.refusal != WRONG_LENGTH {
         return false;
     }
     if a.taken != 0 {

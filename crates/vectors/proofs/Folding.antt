@@ -29,7 +29,8 @@ pub one-at-most : (b : Bool) → one b ≤ 1
 one-at-most true = omega arith
 one-at-most false = omega arith
 
-pub counted-step : (left : ℕ → ℕ) (size n i : ℕ) (b : Bool) → Counted left size n i → i < size → left i ≡ one b + left (i + 1) → Counted left size (n + one b) (i + 1)
+pub counted-step : (left : ℕ → ℕ) (size n i : ℕ) (b : Bool) → Counted left size n i → i < size → left i ≡ one b + left (i + 1)
+    → Counted left size (n + one b) (i + 1)
 counted-step left size n i b k h e = (omega arith, omega (arith, one-at-most b), omega arith)
 
 pub count-step : (p : ℕ → Bool) (l : List ℕ) (i : ℕ) → i < length l → countBy p (drop i l) ≡ one (p (getD l i 0)) + countBy p (drop (i + 1) l)
@@ -44,7 +45,8 @@ rest-of [] (suc i) = refl
 rest-of (x ∷ xs) zero = refl
 rest-of (x ∷ xs) (suc i) = rest-of xs i
 
-pub differ-step : (l m : List ℕ) (i : ℕ) → i < length l → differ (drop i l) (drop i m) ≡ one (isOtherFirst (getD l i 0) (drop i m)) + differ (drop (i + 1) l) (drop (i + 1) m)
+pub differ-step : (l m : List ℕ) (i : ℕ) → i < length l
+    → differ (drop i l) (drop i m) ≡ one (isOtherFirst (getD l i 0) (drop i m)) + differ (drop (i + 1) l) (drop (i + 1) m)
 differ-step l m i h = rw (add-one, drop-cons l i 0) (rw (rest-of m i))
 
 pub differ-end : (l m : List ℕ) (i : ℕ) → length l ≤ i → differ (drop i l) (drop i m) ≡ 0

@@ -5,6 +5,7 @@ ghost use lib.ListN.{drop};
 ghost use Rattle.base.specs.Lists.{countBy, one};
 ghost use Rattle.base.specs.Numbers.{NumberOf};
 ghost use Rattle.vectors.specs.Folds.{mixed, isOther, isOtherFirst, differ, capped};
+use base::wide;
 
 const MODULUS: u64 = 4_294_967_291;
 
@@ -32,13 +33,6 @@ pub fn mix(h: u64, n: u64) -> u64
     ensures { λ r. ⌜ r ≡ mixed h n ⌝ }
 {
     ((h % MODULUS) * 31 + n % MODULUS) % MODULUS
-}
-
-// A call asks only for the byte's index, where a cast in the loop would ask too that it fits.
-fn wide(b: u8) -> u64
-    ensures { λ r. ⌜ r ≡ b ⌝ }
-{
-    b as u64
 }
 
 // How many of the bytes are not this one.

@@ -3,14 +3,13 @@ ghost use mathlib.Core.Path.{_≡_};
 ghost use Prim.Native.Nat.{_*_, _≤_};
 ghost use lib.ListN.{length};
 use crate::report;
+use base::format::MAJOR_FRAME;
 use labelling::Tally;
 use reader::Taken;
 use vectors::filled;
 use vectors::sum;
 
 const MOST_MAJORS: usize = 4;
-
-const AREA: usize = 16384;
 
 // How the reading of a reel stands.
 pub(crate) struct Reading {
@@ -32,7 +31,7 @@ pub(crate) fn written_and_read(lead_spacing: u64, majors: usize) -> bool {
         return false;
     }
     let mut frame_space = [0u8; 65536];
-    let frames = &mut frame_space[0..AREA * majors];
+    let frames = &mut frame_space[0..MAJOR_FRAME * majors];
     if !filled(&mut *frames) {
         return false;
     }
@@ -46,7 +45,7 @@ fn run(lead_spacing: u64, spacings: &[u8], frames: &[u8])
     let mut space = blank();
     let length = write_reel(lead_spacing, spacings, frames, &mut space);
     let reel = &space[0..length];
-    report::written(frames.len() / AREA, reel);
+    report::written(frames.len() / MAJOR_FRAME, reel);
     every_cut(reel, frames);
 }
 
@@ -153,6 +152,9 @@ fn read_reel(reel: &[u8], frames: &[u8], piece: usize, area: &mut [u8]) -> Readi
         let s = feeding::step(t, reel, at, piece, &mut *area);
         let a = s.taken;
         r = answered(r, a, frames, &*area);
+        if a.refusal != 0 {
+            return r;
+        }
         at = s.at;
     }
     r
@@ -191,7 +193,7 @@ fn from(frames: &[u8], major: usize) -> &[u8] {
     if MOST_MAJORS < major {
         return &frames[0..0];
     }
-    let start = AREA * major;
+    let start = MAJOR_FRAME * major;
     if frames.len() < start {
         return &frames[0..0];
     }

@@ -1,4 +1,5 @@
--- `reader_vectors::read_stream` is safe and ends: each step goes onward, and no call changes the area's length. Assumes nothing.
+-- `reader_vectors::read_stream` is safe and ends: each accepted step goes onward, a refused one ends it, and no call changes the area's length.
+-- Assumes nothing.
 use mathlib.Core.Path.{_≡_, sym, _∙_}
 use Prim.Native.Nat.{_-_}
 use native.Mathlib.Omega.{arith}
@@ -18,30 +19,59 @@ fresh-requires c κs = tt
 probe-requires : tie.Need-probe-requires Inv-loop μ-loop
 probe-requires c κs = c .before .before .before .before .pre
 
+-- the start, from the first probe
+module _ (probed : tie.After-probe Inv-loop μ-loop) where
+  abbrev before-probe : tie.Start Inv-loop μ-loop
+  before-probe = probed .before .before .before .before .before
+
 loop-holds : tie.Need-loop-holds Inv-loop μ-loop
-loop-holds c = c .before .before .probe .kept .1 .0 ∙ c .before .before .before .before .before .before .before .pre
+loop-holds c = let probed = c .before .before in probed .probe .kept .1 .0 ∙ before-probe probed .pre
 
 step-requires : tie.Need-step-requires Inv-loop μ-loop
 step-requires c κs = tt
 
+-- the area after a step, and after its report
+module _ (w : tie.After-step Inv-loop μ-loop) where
+  abbrev turn : tie.In-loop Inv-loop μ-loop
+  turn = w .before .before .before
+
+  step-kept : length (w .step .last .1 .1 .1 .1 .0) ≡ 16384
+  step-kept = w .step .kept .1 .1 .1 .1 .0 ∙ turn .before .loop .inv
+
+module _ (v : tie.After-stepped Inv-loop μ-loop) where
+  abbrev after-step : tie.After-step Inv-loop μ-loop
+  after-step = v .before .before .before .before
+
+  report-kept : length (v .stepped .last .1 .1 .0) ≡ 16384
+  report-kept = v .stepped .kept .1 .1 .0 ∙ step-kept after-step
+
 stepped-requires : tie.Need-stepped-requires Inv-loop μ-loop
-stepped-requires c κs = c .before .before .before .step .kept .1 .1 .1 .1 .0 ∙ c .before .before .before .before .before .before .before .loop .inv
-
-loop-less : tie.Need-loop-less Inv-loop μ-loop
-loop-less c =
-    let w = c .before .before .before .before .before .before in
-    omega (arith, w .step .ensures .onward (w .before .before .before .loop-test .taken))
-
-loop-again : tie.Need-loop-again Inv-loop μ-loop
-loop-again c =
-    let w = c .before .before .before .before .before .before in
-    c .before .before .stepped .kept .1 .1 .0 ∙ w .step .kept .1 .1 .1 .1 .0 ∙ w .before .before .before .before .loop .inv
+stepped-requires c κs = step-kept (c .before .before .before)
 
 same-length : tie.Need-same-length Inv-loop μ-loop
-same-length c = c .before .loop .inv ∙ sym (c .before .before .before .before .before .before .before .before .before .pre)
+same-length c =
+    let v = c .before .before .before .before .before in
+    let probed = turn (after-step v) .before .before .before .before in
+    report-kept v ∙ sym (before-probe probed .pre)
 
 returns : tie.Need-returns Inv-loop μ-loop
 returns c = tt
+
+loop-less : tie.Need-loop-less Inv-loop μ-loop
+loop-less c =
+    let w = after-step (c .before .before .before .before .before) in
+    omega (arith, w .step .ensures .onward (c .if1 .left) (turn w .loop-test .taken))
+
+loop-again : tie.Need-loop-again Inv-loop μ-loop
+loop-again c = report-kept (c .before .before .before .before .before)
+
+same-length-2 : tie.Need-same-length-2 Inv-loop μ-loop
+same-length-2 c =
+    let probed = c .before .before .before .before in
+    c .before .loop .inv ∙ sym (before-probe probed .pre)
+
+returns-2 : tie.Need-returns-2 Inv-loop μ-loop
+returns-2 c = tt
 
 pub read-stream-spec : {M : Type 1} → statement M
 read-stream-spec =
@@ -54,7 +84,9 @@ read-stream-spec =
     loop-holds
     step-requires
     stepped-requires
+    same-length
+    returns
     loop-less
     loop-again
-    same-length
-    returns)
+    same-length-2
+    returns-2)

@@ -33,7 +33,9 @@ loop-less : tie.Need-loop-less Inv-loop μ-loop
 loop-less c = omega arith
 
 loop-again : tie.Need-loop-again Inv-loop μ-loop
-loop-again c = rw (c .mix .ensures, c .before .wide .ensures) (fold-step mixed _ _ _ (c .before .before .before .before .loop .inv) (c .before .before .before .loop-test .taken))
+loop-again c =
+    let turn = c .before .before .before in
+    rw (c .mix .ensures, c .before .wide .ensures) (fold-step mixed _ _ _ (turn .before .loop .inv) (turn .loop-test .taken))
 
 returns : tie.Need-returns Inv-loop μ-loop
 returns c = fold-end mixed _ _ _ (c .before .loop .inv) (c .loop-test .left)

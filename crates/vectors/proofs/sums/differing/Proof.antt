@@ -45,10 +45,13 @@ loop-again c =
     let h = c .before .before .before .loop-test .taken in
     let a = now (w .before .before .before .args .a) in
     let b = now (w .before .before .before .args .b) in
-    rw (c .bit .ensures) (counted-step (left a b) _ _ _ (c .before .is-other .result) (w .loop .inv) h (rw (c .before .is-other .ensures) (differ-step a b _ h)))
+    let other = c .before .is-other in
+    rw (c .bit .ensures) (counted-step (left a b) _ _ _ (other .result) (w .loop .inv) h (rw (other .ensures) (differ-step a b _ h)))
 
 returns : tie.Need-returns Inv-loop μ-loop
-returns c = omega (arith, differ-end (now (c .before .before .before .before .args .a)) (now (c .before .before .before .before .args .b)) (c .before .loop .i) (c .loop-test .left))
+returns c =
+    let w = c .before .before .before .before .args in
+    omega (arith, differ-end (now (w .a)) (now (w .b)) (c .before .loop .i) (c .loop-test .left))
 
 pub differing-spec : {M : Type 1} → statement M
 differing-spec =

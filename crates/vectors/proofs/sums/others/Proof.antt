@@ -51,7 +51,9 @@ loop-again c =
     rw (c .bit .ensures) (counted-step (left b bytes) _ _ _ (now-other c) (w .loop .inv) h (count-step (isOther b) bytes _ h))
 
 returns : tie.Need-returns Inv-loop μ-loop
-returns c = omega (arith, count-end (isOther (c .before .before .before .args .b)) (now (c .before .before .before .args .bytes)) (c .before .loop .i) (c .loop-test .left))
+returns c =
+    let w = c .before .before .before .args in
+    omega (arith, count-end (isOther (w .b)) (now (w .bytes)) (c .before .loop .i) (c .loop-test .left))
 
 pub others-spec : {M : Type 1} → statement M
 others-spec =

@@ -1,4 +1,4 @@
--- `writer_vectors::reel::read_reel` is safe and ends: each step goes onward. Assumes nothing.
+-- `writer_vectors::reel::read_reel` is safe and ends: each accepted step goes onward, and a refused one ends it. Assumes nothing.
 use mathlib.Core.Path.{_≡_, refl, _∙_}
 use Prim.Native.Nat.{_-_}
 use native.Mathlib.Omega.{arith}
@@ -24,21 +24,32 @@ step-requires c κs = tt
 answered-requires : tie.Need-answered-requires Inv-loop μ-loop
 answered-requires c κs = tt
 
-loop-less : tie.Need-loop-less Inv-loop μ-loop
-loop-less c =
-    let w = c .before .before .before .before .before in
-    omega (arith, w .step .ensures .onward (w .before .before .before .loop-test .taken))
-
-loop-again : tie.Need-loop-again Inv-loop μ-loop
-loop-again c =
-    let w = c .before .before .before .before .before in
-    w .step .kept .1 .1 .1 .1 .0 ∙ w .before .before .before .before .loop .inv
-
 same-length : tie.Need-same-length Inv-loop μ-loop
-same-length c = c .before .loop .inv
+same-length c =
+    let answered = c .before .before in
+    let w = answered .before .before .before .before .before in
+    w .step .kept .1 .1 .1 .1 .0 ∙ w .before .before .before .before .loop .inv
 
 returns : tie.Need-returns Inv-loop μ-loop
 returns c = tt
+
+loop-less : tie.Need-loop-less Inv-loop μ-loop
+loop-less c =
+    let answered = c .before .before in
+    let w = answered .before .before .before .before .before in
+    omega (arith, w .step .ensures .onward (c .if1 .left) (w .before .before .before .loop-test .taken))
+
+loop-again : tie.Need-loop-again Inv-loop μ-loop
+loop-again c =
+    let answered = c .before .before in
+    let w = answered .before .before .before .before .before in
+    w .step .kept .1 .1 .1 .1 .0 ∙ w .before .before .before .before .loop .inv
+
+same-length-2 : tie.Need-same-length-2 Inv-loop μ-loop
+same-length-2 c = c .before .loop .inv
+
+returns-2 : tie.Need-returns-2 Inv-loop μ-loop
+returns-2 c = tt
 
 pub read-reel-spec : {M : Type 1} → statement M
 read-reel-spec =
@@ -50,7 +61,9 @@ read-reel-spec =
     loop-holds
     step-requires
     answered-requires
+    same-length
+    returns
     loop-less
     loop-again
-    same-length
-    returns)
+    same-length-2
+    returns-2)

@@ -67,7 +67,9 @@ loop-less : tie.Need-loop-less Inv-loop μ-loop
 loop-less c = omega arith
 
 loop-again : tie.Need-loop-again Inv-loop μ-loop
-loop-again c = (omega (arith, within c, c .before .room .given .1), omega (arith, turn c .loop-test .taken), c .before .room .given .1 ∙ turn c .before .loop .inv .2)
+loop-again c =
+    let kept = c .before .room .given .1 in
+    (omega (arith, within c, kept), omega (arith, turn c .loop-test .taken), kept ∙ turn c .before .loop .inv .2)
 
 same-length : tie.Need-same-length Inv-loop μ-loop
 same-length c = c .before .loop .inv .2
