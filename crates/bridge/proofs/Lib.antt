@@ -1,3 +1,4 @@
 pub mod Answers
 pub mod Crossed
+pub mod FoundCrossed
 pub mod WordCrossed

@@ -2,6 +2,7 @@
 // its twenty numbers and its frame of 128 bytes, which the caller lends; an entry reads them, calls the proved function, and writes them
 // back.
 mod codecs;
+mod finding;
 mod word72;
 mod writing;
 
@@ -13,6 +14,7 @@ pub use codecs::pcd_decode_number;
 pub use codecs::pcd_decode_time;
 pub use codecs::pcd_encode_number;
 pub use codecs::pcd_encode_time;
+pub use finding::pcd_find;
 use labelling::Framing;
 use labelling::Groups;
 use labelling::Runs;

@@ -25,6 +25,12 @@ module _ (xs : List ℕ) (wanted : ℕ) where
   unique (before differ above h) (past differ' at-most h') = omega arith
   unique (before differ above h) (before differ' above' h') = let u = unique h h' in (u .0, omega arith)
 
+  -- the end lies within low and high
+  pub within : {low high e k : ℕ} → Halving xs wanted low high e k → low ≤ high → e ≤ high
+  within met le = le
+  within {low} {high} (past differ at-most r) le = within r (omega arith)
+  within {low} {high} (before differ above r) le = omega (arith, within r (omega arith))
+
   -- with fewer than 2^d entries from low to high there are at most d looks
   pub few : {low high e k : ℕ} → Halving xs wanted low high e k → low ≤ high → (d : ℕ) → high < low + 2 ^ d → k ≤ d
   few met le d h = omega arith

@@ -7,7 +7,7 @@ use Prim.Native.Nat.{ℕ, _-_, _^_, _≤_, _<_}
 use native.Mathlib.Omega.{arith}
 use lib.Dec.{eqb, ltb}
 use lib.ListN.{length}
-use borrow.Author.Tests.{lt-ltb, le-ltb}
+use borrow.Author.Tests.{lt-ltb, le-ltb, eqb-false}
 use Rattle.base.specs.Refusal.{answered}
 use Rattle.base.proofs.Refusals.{answered-of}
 use Rattle.lookup.specs.declared.Found.{Found}
@@ -15,7 +15,7 @@ use Rattle.lookup.specs.declared.Found.the-variants.{At, Nothing, Refuse
 use Rattle.lookup.specs.Halving.{Search}
 use Rattle.lookup.specs.Answer.{Values, findLines, refused, found, valuesOf, given}
 use Rattle.lookup.specs.Promise.{FindPromise}
-use Rattle.lookup.proofs.Halving.{unique, few, outcome}
+use Rattle.lookup.proofs.Halving.{unique, within, few, outcome}
 use Rattle.lookup.proofs.WholeReading.{weaken, never-falls}
 
 -- the case for low and looks has the values for low and looks
@@ -40,6 +40,12 @@ module _ (xs : List ℕ) (wanted low looks : ℕ) (rule : Search xs wanted low l
   place-told true e = absurd (omega arith)
   place-told false e = refl
 
+  place-there : (too-long low-0 : Bool) (p : ℕ) → eqb low 0 ≡ low-0
+      → cond too-long (refused 12) (record { number = 0; place = cond low-0 none (some (low - 1)); looks = looks }) .place ≡ some p → p < length xs
+  place-there true b p e h = let z : _≡_ {A = ℕ} 0 1 = cc in omega arith
+  place-there false true p e h = let z : _≡_ {A = ℕ} 0 1 = cc in omega arith
+  place-there false false p e h = let q : low - 1 ≡ p = cc in omega (arith, within xs wanted rule (omega arith), eqb-false low 0 e)
+
   pub promised : (r : Found) → r ≡ answered Refused (findLines xs) (given low looks) → FindPromise xs wanted r
   promised r e =
       let too-long = ltb 100000 (length xs) in
@@ -53,6 +59,7 @@ module _ (xs : List ℕ) (wanted low looks : ℕ) (rule : Search xs wanted low l
         no-other = λ l k other. unique xs wanted other rule;
         values = values;
         answer = e;
+        there = λ p h. place-there too-long (eqb low 0) p refl (rw values at h);
         few-looks = λ d h. rw values (omega (arith, few xs wanted rule (omega arith) d (omega arith)));
         no-looks = λ h. rw values (omega (arith, few xs wanted rule (omega arith) 0 (omega arith)));
         whole-reading = λ ok rises. rw values (place-told too-long ok ∙ never-falls xs wanted (weaken xs rises) low looks rule);
