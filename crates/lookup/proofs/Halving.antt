@@ -90,25 +90,28 @@ module _ (xs : List ℕ) (wanted : ℕ) where
   pub start : Turn 0 (length xs) 0
   start = record { ordered = omega arith; within = omega arith; spent = omega arith; rest = λ end more h. recount (omega arith) h }
 
-  pub turn-past : {low high looks low' high' : ℕ} → Turn low high looks → low < high → getD xs (halfway low high) 0 ≤ wanted
-      → low' ≡ halfway low high + 1 → high' ≡ high → Turn low' high' (looks + 1)
-  turn-past {low} {high} {looks} t lt at-most l h =
-      record {
-        ordered = omega arith;
-        within = omega arith;
-        spent = omega arith;
-        rest = rw (l, h) (λ end more r. recount (omega arith) (t .rest end (more + 1) (past (λ (z : low ≡ high). omega arith) at-most r)));
-      }
+  -- the locals after a turn that looked halfway, each by what it is of those before
+  module _ {low high looks half low' high' looks' : ℕ} (t : Turn low high looks) (lt : low < high) (mid : half ≡ halfway low high)
+      (counted : looks' ≡ looks + 1) where
+    pub turn-past : getD xs half 0 ≤ wanted → low' ≡ half + 1 → high' ≡ high → Turn low' high' looks'
+    turn-past at-most l h =
+        record {
+          ordered = omega arith;
+          within = omega arith;
+          spent = omega arith;
+          rest = rw (l, h, mid) (λ end more r.
+              recount (omega arith) (t .rest end (more + 1) (past (λ (z : low ≡ high). omega arith) (rw mid at at-most) r)));
+        }
 
-  pub turn-before : {low high looks low' high' : ℕ} → Turn low high looks → low < high → wanted < getD xs (halfway low high) 0
-      → low' ≡ low → high' ≡ halfway low high → Turn low' high' (looks + 1)
-  turn-before {low} {high} {looks} t lt above l h =
-      record {
-        ordered = omega arith;
-        within = omega arith;
-        spent = omega arith;
-        rest = rw (l, h) (λ end more r. recount (omega arith) (t .rest end (more + 1) (before (λ (z : low ≡ high). omega arith) above r)));
-      }
+    pub turn-before : wanted < getD xs half 0 → low' ≡ low → high' ≡ half → Turn low' high' looks'
+    turn-before above l h =
+        record {
+          ordered = omega arith;
+          within = omega arith;
+          spent = omega arith;
+          rest = rw (l, h, mid) (λ end more r.
+              recount (omega arith) (t .rest end (more + 1) (before (λ (z : low ≡ high). omega arith) (rw mid at above) r)));
+        }
 
   pub ended : {low high looks : ℕ} → Turn low high looks → high ≤ low → Search xs wanted low looks
   ended {low} {high} {looks} t h =

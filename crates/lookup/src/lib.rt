@@ -1,8 +1,8 @@
 // Finds the last recorded instant at or before a wanted one, by halving (paper 02, request 1).
 ghost use mathlib.Core.Path.{_≡_};
-ghost use Prim.Native.Nat.{_≤_};
+ghost use Prim.Native.Nat.{_+_, _≤_};
 ghost use lib.ListN.{length};
-ghost use Rattle.lookup.specs.Halving.{Search};
+ghost use Rattle.lookup.specs.Halving.{halfway, Search};
 ghost use Rattle.lookup.specs.Answer.{given};
 ghost use Rattle.lookup.specs.Promise.{FindPromise};
 
@@ -41,7 +41,7 @@ fn halve(instants: &[u64], wanted: u64) -> End
     let mut high = instants.len();
     let mut looks = 0;
     while low < high {
-        let half = (low + high) / 2;
+        let half = middle(low, high);
         if instants[half] <= wanted {
             low = half + 1;
         } else {
@@ -53,6 +53,14 @@ fn halve(instants: &[u64], wanted: u64) -> End
         low: low,
         looks: looks,
     }
+}
+
+// Halfway, rounded down.
+fn middle(low: usize, high: usize) -> usize
+    requires { ⌜ low + high ≤ 200000 ⌝ }
+    ensures { λ r. ⌜ r ≡ halfway low high ⌝ }
+{
+    (low + high) / 2
 }
 
 // The answer is low - 1, or none.

@@ -17,8 +17,8 @@ abbrev μ-loop : tie.MeasureT-loop
 loop-holds : tie.Need-loop-holds Inv-loop μ-loop
 loop-holds c = start _ _
 
-add-half : tie.Need-add-half Inv-loop μ-loop
-add-half c = search needs
+middle-requires : tie.Need-middle-requires Inv-loop μ-loop
+middle-requires c κs = search needs
 
 mul-if1 : tie.Need-mul-if1 Inv-loop μ-loop
 mul-if1 c = search needs
@@ -37,12 +37,13 @@ loop-less c = ⊎-elim (λ w. omega arith) (λ w. omega arith) (c .if1 .came)
 
 loop-again : tie.Need-loop-again Inv-loop μ-loop
 loop-again c =
-    let at-loop = c .before .before .before in
-    let a = at-loop .before .args in
-    let inv = at-loop .loop .inv in
+    let looked = c .before .before in
+    let turn = looked .before .before in
+    let a = turn .before .before .args in
+    let mid = looked .middle .ensures in
     ⊎-elim
-    (λ w. turn-past (now (a .instants)) (a .wanted) inv (omega arith) (omega arith) (omega arith) (omega arith))
-    (λ w. turn-before (now (a .instants)) (a .wanted) inv (omega arith) (omega arith) (omega arith) (omega arith))
+    (λ w. turn-past (now (a .instants)) (a .wanted) (turn .loop .inv) (omega arith) mid (omega arith) (omega arith) (omega arith) (omega arith))
+    (λ w. turn-before (now (a .instants)) (a .wanted) (turn .loop .inv) (omega arith) mid (omega arith) (omega arith) (omega arith) (omega arith))
     (c .if1 .came)
 
 returns : tie.Need-returns Inv-loop μ-loop
@@ -55,7 +56,7 @@ halve-spec =
     Inv-loop
     μ-loop
     loop-holds
-    add-half
+    middle-requires
     mul-if1
     shared-slice-read-if1
     add-low
