@@ -15,14 +15,27 @@ use std::time::Instant;
 
 use stream::Random;
 
-const ROUNDS: usize = 9;
+const ROUNDS: usize = 150;
 
 fn main() {
-    println!("lookup: ns a call, {} instants, 1,000,000 random wanted ones, best of {ROUNDS}", lookup::MOST);
+    println!("lookup: ns a call, {} instants, random wanted ones, best of {ROUNDS} rounds of {CALLS}; then the proved one's speed as a ratio to each", lookup::MOST);
     println!();
-    println!("{:<22} | {:>7} {:>7} {:>15} | {:>7} {:>15}", "lists", "proved", "rule", "partition_point", "rule", "partition_point");
-    print_lookup("1 list (0.8 MB)", 1);
-    print_lookup("64 lists (51 MB)", 64);
+    println!("{:<18} | {:>7} {:>7} {:>15} | {:>7} {:>15}", "lists", "proved", "rule", "partition_point", "rule", "partition_point");
+    print_lookup("1 (0.8 MB)", 1);
+    print_lookup("64 (51 MB)", 64);
+}
+
+// Calls in a round. In a round each contender has another share of the wanted instants, so that none finds in the cache what the one before it read.
+const CALLS: usize = 20_000;
+const SHARES: usize = 50;
+
+// The contenders: the place plus one, 0 for none.
+const FINDERS: [fn(&[u64], u64) -> u64; 3] = [proved, |list, wanted| lookup::halve(list, wanted)[0], partition_point];
+
+fn proved(instants: &[u64], wanted: u64) -> u64 {
+    let mut out = [u64::MAX; 2];
+    bridge::find(instants, wanted, &mut out);
+    out[0]
 }
 
 #[inline(never)]
@@ -33,20 +46,20 @@ fn partition_point(instants: &[u64], wanted: u64) -> u64 {
 fn print_lookup(name: &str, lists: usize) {
     let mut r = Random(1);
     let lists: Vec<Vec<u64>> = (0..lists).map(|_| rising(&mut r)).collect();
-    let wanted: Vec<u64> = (0..1_000_000).map(|_| r.next()).collect();
-    let mut best = [f64::INFINITY; 3];
-    for _ in 0..ROUNDS {
-        let proved = timed(&lists, &wanted, &mut best[0], |list, w| {
-            let mut out = [u64::MAX; 2];
-            assert_eq!(bridge::find(list, w, &mut out), 0);
-            out[0]
-        });
-        let rule = timed(&lists, &wanted, &mut best[1], |list, w| lookup::halve(list, w)[0]);
-        let std = timed(&lists, &wanted, &mut best[2], partition_point);
-        assert!(proved == rule && proved == std, "the answers differ");
+    let wanted: Vec<u64> = (0..CALLS * SHARES).map(|_| r.next()).collect();
+    let mut best = [f64::INFINITY; FINDERS.len()];
+    let mut sums = [[0; SHARES]; FINDERS.len()];
+    for round in 0..ROUNDS {
+        for (i, find) in FINDERS.iter().enumerate() {
+            let share = (round + i * 17) % SHARES;
+            let started = Instant::now();
+            sums[i][share] = find_all(&lists, &wanted[share * CALLS..(share + 1) * CALLS], *find);
+            best[i] = best[i].min(started.elapsed().as_secs_f64() * 1e9 / CALLS as f64);
+        }
     }
+    assert!(sums.iter().all(|sum| *sum == sums[0]), "the answers differ");
     let [proved, rule, std] = best;
-    println!("{name:<22} | {proved:>7.1} {rule:>7.1} {std:>15.1} | {:>7.2} {:>15.2}", rule / proved, std / proved);
+    println!("{name:<18} | {proved:>7.1} {rule:>7.1} {std:>15.1} | {:>7.2} {:>15.2}", rule / proved, std / proved);
 }
 
 fn rising(r: &mut Random) -> Vec<u64> {
@@ -55,11 +68,8 @@ fn rising(r: &mut Random) -> Vec<u64> {
     list
 }
 
-// A sum over the answers, list after list; the time a call goes into the best so far.
-fn timed(lists: &[Vec<u64>], wanted: &[u64], best: &mut f64, find: impl Fn(&[u64], u64) -> u64) -> u64 {
-    let started = Instant::now();
+// A sum over the answers, in list after list.
+fn find_all(lists: &[Vec<u64>], wanted: &[u64], find: fn(&[u64], u64) -> u64) -> u64 {
     let answers = wanted.iter().zip(lists.iter().cycle()).map(|(&w, list)| find(list, w));
-    let sum = answers.fold(0u64, |sum, low| sum.wrapping_mul(31).wrapping_add(low));
-    *best = best.min(started.elapsed().as_secs_f64() * 1e9 / wanted.len() as f64);
-    sum
+    answers.fold(0, |sum, low| sum.wrapping_mul(31).wrapping_add(low))
 }
