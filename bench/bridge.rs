@@ -25,6 +25,7 @@ extern "C" {
     fn pcd_describe(kind: u64, item: u64, out: *mut [u64; 3]) -> u8;
     fn pcd_part_refusal(column: *const u8, column_len: usize, kind: u64, item: u64) -> u8;
     fn pcd_read(column: *const u8, column_len: usize, kind: u64, item: u64, out: *mut [u64; 9], number: *mut f64) -> u8;
+    fn pcd_find(instants: *const u64, instants_len: usize, wanted: u64, out: *mut [u64; 2]) -> u8;
 }
 
 // A tally as it crosses.
@@ -120,4 +121,8 @@ pub fn part_refusal(column: &[u8], kind: u64, item: u64) -> u8 {
 
 pub fn read(column: &[u8], kind: u64, item: u64, out: &mut [u64; 9], number: &mut f64) -> u8 {
     unsafe { pcd_read(column.as_ptr(), column.len(), kind, item, out, number) }
+}
+
+pub fn find(instants: &[u64], wanted: u64, out: &mut [u64; 2]) -> u8 {
+    unsafe { pcd_find(instants.as_ptr(), instants.len(), wanted, out) }
 }

@@ -1,6 +1,6 @@
 // The proved reader against the plain one: differential STREAMS SEED. Stream i has the seed SEED + i, so that a stream which fails is run
-// alone by `1` and its own seed. The readers that the timing compares with are held to the same, and each seed tries the writer, the codecs
-// and every item of every kind of word 72 too.
+// alone by `1` and its own seed. The readers that the timing compares with are held to the same, and each seed tries the lookup, the
+// writer, the codecs and every item of every kind of word 72 too.
 
 mod bridge;
 mod bytewise;
@@ -8,6 +8,7 @@ mod codecs;
 mod disorder;
 mod entry;
 mod items;
+mod lookup;
 mod nominal;
 mod plain;
 mod stream;
@@ -167,6 +168,7 @@ impl Trial {
         self.streaming("tuned", tuned::take)?;
         self.streaming("nominal", nominal::take)?;
         writer::trials(&mut self.r)?;
+        lookup::trials(&mut self.r)?;
         codecs::trials(&mut self.r)?;
         items::trials(&mut self.r, &mut seen.word72)
     }

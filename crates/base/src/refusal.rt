@@ -32,3 +32,6 @@ pub const NOT_NORMALISED: u8 = 10;
 
 // A double has no six-byte word.
 pub const NO_WORD_FOR_DOUBLE: u8 = 11;
+
+// A list of instants is longer than 100,000.
+pub const LIST_TOO_LONG: u8 = 12;

@@ -1,2 +1,3 @@
+pub mod Finding
 pub mod LentPlaces
 pub mod Word72

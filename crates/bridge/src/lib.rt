@@ -1,6 +1,7 @@
-// The library for programs in other languages: exported entries over the reader, the writer, word 72 and its codecs, one file for each.
+// The library for programs in other languages: exported entries over the reader, the writer, word 72, its codecs and the lookup, one file for each.
 // include/pcd.h declares them for C.
 mod codecs;
+mod finding;
 mod reading;
 mod word72;
 mod writing;
@@ -9,6 +10,7 @@ pub use codecs::pcd_decode_number;
 pub use codecs::pcd_decode_time;
 pub use codecs::pcd_encode_number;
 pub use codecs::pcd_encode_time;
+pub use finding::pcd_find;
 pub use reading::pcd_fresh;
 pub use reading::pcd_take;
 pub use word72::pcd_describe;

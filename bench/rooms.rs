@@ -1,0 +1,75 @@
+// The rooms that stand apart from the reader, each beside what one would write in safe Rust, in one run: rooms. Each figure is the best of some
+// rounds, in which the contenders take turns, and all of them must give the same answers. Nothing fails on a time.
+
+// Of these the differential test uses more.
+#[allow(dead_code)]
+mod bridge;
+#[allow(dead_code)]
+mod lookup;
+#[allow(dead_code)]
+mod stream;
+#[allow(dead_code)]
+mod tally;
+
+use std::time::Instant;
+
+use stream::Random;
+
+const ROUNDS: usize = 150;
+
+fn main() {
+    println!("lookup: ns a call, {} instants, random wanted ones, best of {ROUNDS} rounds of {CALLS}; then the proved one's speed as a ratio to each", lookup::MOST);
+    println!();
+    println!("{:<18} | {:>7} {:>7} {:>15} | {:>7} {:>15}", "lists", "proved", "rule", "partition_point", "rule", "partition_point");
+    print_lookup("1 (0.8 MB)", 1);
+    print_lookup("64 (51 MB)", 64);
+}
+
+// Calls in a round. In a round each contender has another share of the wanted instants, so that none finds in the cache what the one before it read.
+const CALLS: usize = 20_000;
+const SHARES: usize = 50;
+
+// The contenders: the place plus one, 0 for none.
+const FINDERS: [fn(&[u64], u64) -> u64; 3] = [proved, |list, wanted| lookup::halve(list, wanted)[0], partition_point];
+
+fn proved(instants: &[u64], wanted: u64) -> u64 {
+    let mut out = [u64::MAX; 2];
+    bridge::find(instants, wanted, &mut out);
+    out[0]
+}
+
+#[inline(never)]
+fn partition_point(instants: &[u64], wanted: u64) -> u64 {
+    instants.partition_point(|&x| x <= wanted) as u64
+}
+
+fn print_lookup(name: &str, lists: usize) {
+    let mut r = Random(1);
+    let lists: Vec<Vec<u64>> = (0..lists).map(|_| rising(&mut r)).collect();
+    let wanted: Vec<u64> = (0..CALLS * SHARES).map(|_| r.next()).collect();
+    let mut best = [f64::INFINITY; FINDERS.len()];
+    let mut sums = [[0; SHARES]; FINDERS.len()];
+    for round in 0..ROUNDS {
+        for (i, find) in FINDERS.iter().enumerate() {
+            let share = (round + i * 17) % SHARES;
+            let started = Instant::now();
+            sums[i][share] = find_all(&lists, &wanted[share * CALLS..(share + 1) * CALLS], *find);
+            best[i] = best[i].min(started.elapsed().as_secs_f64() * 1e9 / CALLS as f64);
+        }
+    }
+    assert!(sums.iter().all(|sum| *sum == sums[0]), "the answers differ");
+    let [proved, rule, std] = best;
+    println!("{name:<18} | {proved:>7.1} {rule:>7.1} {std:>15.1} | {:>7.2} {:>15.2}", rule / proved, std / proved);
+}
+
+fn rising(r: &mut Random) -> Vec<u64> {
+    let mut list: Vec<u64> = (0..lookup::MOST).map(|_| r.next()).collect();
+    list.sort();
+    list
+}
+
+// A sum over the answers, in list after list.
+fn find_all(lists: &[Vec<u64>], wanted: &[u64], find: fn(&[u64], u64) -> u64) -> u64 {
+    let answers = wanted.iter().zip(lists.iter().cycle()).map(|(&w, list)| find(list, w));
+    answers.fold(0, |sum, low| sum.wrapping_mul(31).wrapping_add(low))
+}

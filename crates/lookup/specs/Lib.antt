@@ -1,0 +1,4 @@
+pub mod Halving
+pub mod WholeReading
+pub mod Answer
+pub mod Promise
