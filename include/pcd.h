@@ -35,6 +35,7 @@ extern "C" {
 #define PCD_UPPER_BITS_SET 9     /* the upper four bits of a 12-bit item are not 0 */
 #define PCD_NOT_NORMALISED 10    /* a six-byte number is not normalised */
 #define PCD_NO_WORD_FOR_DOUBLE 11 /* a double has no six-byte word */
+#define PCD_LIST_TOO_LONG 12     /* a list of instants is longer than 100,000 */
 
 /* ---- Sizes */
 
@@ -133,6 +134,12 @@ uint8_t pcd_decode_number(const uint8_t *bytes, size_t bytes_len, double *out);
 
 /* Writes the PCD_NUMBER bytes of a double. Refused: 2; 11, among others negative zero, infinities and not-a-numbers. */
 uint8_t pcd_encode_number(double x, uint8_t *out, size_t out_len);
+
+/* ---- The lookup */
+
+/* Finds the last instant at or before the wanted one, by halving: out gets its place plus one, 0 for none, and how many instants were looked
+ * at. Of a list that does not rise, the place that halving comes to. Refused: 12. */
+uint8_t pcd_find(const uint64_t *instants, size_t instants_len, uint64_t wanted, uint64_t out[2]);
 
 #ifdef __cplusplus
 }
