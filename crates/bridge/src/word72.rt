@@ -1,9 +1,10 @@
 // Word 72. The answer is the number of the refusal, 0 for none; a refusal writes nothing.
 ghost use mathlib.Core.Path.{_≡_};
 ghost use Rattle.subcom.specs.Parts.{partRefusal};
-ghost use Rattle.subcom.specs.Promise.{GatherPromise};
-ghost use Rattle.bridge.specs.Word72.{formNumber, readingOr, KindCrossed, CountCrossed, DescribeCrossed, ReadCrossed};
-ghost use Rattle.subcom.specs.declared.reading.Reading.the-variants.{Flags};
+ghost use Rattle.word72_column.specs.Promise.{GatherPromise};
+ghost use Rattle.word72_reading.specs.Readings.{bitsIn};
+ghost use Rattle.word72_reading.specs.Values.{flags};
+ghost use Rattle.bridge.specs.Word72.{formNumber, valueNumbers, KindCrossed, CountCrossed, DescribeCrossed, ReadCrossed};
 use crate::flag;
 use subcom::ColumnKind;
 use subcom::Description;
@@ -91,7 +92,8 @@ pub extern "C" fn pcd_part_refusal(column: &[u8], kind: u64, item: u64) -> u8
     subcom::part_refusal(column, kind, item)
 }
 
-// What an item reads as; `out` gets the number of the form that it is read by, then its values, and `number` the double of a number.
+// What an item reads as; `out` gets what that is (0 a count, 2 flags, 3 a number, 4 a time, 5 fill), then its values, and `number` the
+// double of a number. A 12-bit item is a count here.
 #[no_mangle]
 pub extern "C" fn pcd_read(
     column: &[u8],
@@ -132,7 +134,7 @@ pub extern "C" fn pcd_read(
 }
 
 fn put_flags(f: EightFlags, out: &mut [u64; 9])
-    ensures { λ _. ⌜ now (out .exit) ≡ readingOr (Flags f) (now (out .entry)) ⌝ }
+    ensures { λ _. ⌜ now (out .exit) ≡ valueNumbers (flags (bitsIn f)) ⌝ }
 {
     let b0 = flag(f.bit0);
     let b1 = flag(f.bit1);

@@ -14,7 +14,9 @@ form-number-requires : tie.Need-form-number-requires
 form-number-requires c κs = search needs
 
 returns : tie.Need-returns
-returns c = rw (c .before .form-number .ensures) (describe-crossed _ _ _ _ _ (c .before .before .before .before .before .describe .ensures) (c .before .before .before .i .given .1))
+returns c =
+    let arm = c .before .before .before in
+    rw (c .before .form-number .ensures) (describe-crossed _ _ _ _ _ (arm .before .before .describe .ensures) (arm .i .given .1))
 
 enum-known-number : tie.Need-enum-known-number
 enum-known-number c = search needs

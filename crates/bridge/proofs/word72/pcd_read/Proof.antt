@@ -20,7 +20,9 @@ put-flags-requires : tie.Need-put-flags-requires
 put-flags-requires c κs = search needs
 
 returns-2 : tie.Need-returns-2
-returns-2 c = rw (c .put-flags .ensures) (read-crossed _ _ _ _ _ _ _ (c .before .before .before .before .before .read .ensures) (c .before .before .before .f .given .1))
+returns-2 c =
+    let arm = c .before .before .before in
+    rw (c .put-flags .ensures) (read-crossed _ _ _ _ _ _ _ (arm .before .before .read .ensures) (arm .f .given .1))
 
 enum-known-x : tie.Need-enum-known-x
 enum-known-x c = search needs

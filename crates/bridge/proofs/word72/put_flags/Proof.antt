@@ -28,7 +28,16 @@ flag-requires-8 : tie.Need-flag-requires-8
 flag-requires-8 c κs = search needs
 
 returns : tie.Need-returns
-returns c = rw (c .before .flag8 .ensures, c .before .before .flag7 .ensures, c .before .before .before .flag6 .ensures, c .before .before .before .before .flag5 .ensures, c .before .before .before .before .before .flag4 .ensures, c .before .before .before .before .before .before .flag3 .ensures, c .before .before .before .before .before .before .before .flag2 .ensures, c .before .before .before .before .before .before .before .before .flag .ensures)
+returns c =
+    let s8 = c .before in
+    let s7 = s8 .before in
+    let s6 = s7 .before in
+    let s5 = s6 .before in
+    let s4 = s5 .before in
+    let s3 = s4 .before in
+    let s2 = s3 .before in
+    rw (s8 .flag8 .ensures, s7 .flag7 .ensures, s6 .flag6 .ensures, s5 .flag5 .ensures)
+    (rw (s4 .flag4 .ensures, s3 .flag3 .ensures, s2 .flag2 .ensures, s2 .before .flag .ensures))
 
 pub put-flags-spec : {M : Type 1} → statement M
 put-flags-spec =

@@ -1,0 +1,4 @@
+pub mod Each
+pub mod Rule
+pub mod Found
+pub mod Answers

@@ -1,0 +1,5 @@
+pub mod Layout
+pub mod ItemTable
+pub mod CodeTables
+pub mod Answers
+pub mod Promise
