@@ -1,6 +1,6 @@
 -- Lists of calls, one after the other: where each is handed on from what the one before left, so is the list of both, and its joined bytes and
 -- paid frames are those of both in order. Assumes nothing.
-use mathlib.Core.Path.{_≡_, refl, ap, _∙_}
+use mathlib.Core.Path.{_≡_, refl}
 use mathlib.Core.List.{List, [], _∷_, _++_, append-nil}
 use Prim.Native.Nat.{ℕ}
 use Rattle.base.proofs.Lists.{concatMap-append}

@@ -4,18 +4,16 @@
 use mathlib.Core.Path.{_≡_, refl, sym, ap, _∙_}
 use mathlib.Core.Bool.{Bool, true, false, cond}
 use mathlib.Core.List.{List, [], _∷_, _++_}
-use Prim.Native.Nat.{ℕ, zero, suc, _+_, _-_, _^_, _≤_, _<_}
-use native.Mathlib.Nat.{add-zero}
+use Prim.Native.Nat.{ℕ, zero, suc, _+_, _-_, _≤_, _<_}
 use native.Mathlib.Omega.{arith}
 use lib.ListN.{length, take, drop, length-append, length-drop}
-use lib.Seq.{take-add, take-all}
+use lib.Seq.{take-add}
 use Rattle.base.specs.Lists.{one}
 use Rattle.labelling.specs.declared.Tally.{Tally}
 use Rattle.labelling.specs.Words.{byteVote}
-use Rattle.labelling.specs.Order.{inOrder}
 use Rattle.labelling.specs.Calls.{Call, takeRefusal, Answer, answer, taken, pays, joined, paid, Handed, done, refused}
 use Rattle.labelling.proofs.Ordered.{ordered}
-use Rattle.labelling.proofs.Feeding.{OrderedBy, ordered-feed}
+use Rattle.labelling.proofs.Feeding.{ordered-feed}
 use Rattle.labelling.proofs.CallLaws.{Passed, passed, no-refusal, refused-answer, accepted-answer, answer-ordered}
 use Rattle.reader.specs.declared.Taken.{Taken}
 use Rattle.reader.specs.Shapes.{callOf, TakePromise}

@@ -5,7 +5,7 @@ use mathlib.Core.Bool.{Bool, true, false, cond, true≢false}
 use mathlib.Core.List.{List, [], _++_}
 use Prim.Native.Nat.{ℕ, _+_, _-_, _^_, _≤_, _<_}
 use native.Mathlib.Omega.{arith}
-use lib.Dec.{eqb, ltb}
+use lib.Dec.{eqb}
 use lib.ListN.{length, take, length-append, length-replicate}
 use lib.IntN.{ℤ, pos, negsuc}
 use lib.Seq.{take-length, length-take-le}
@@ -15,7 +15,7 @@ use Rattle.io.specs.Counts.{clamped}
 use Rattle.labelling.specs.declared.Tally.{Tally}
 use Rattle.labelling.specs.Words.{byteVote}
 use Rattle.labelling.specs.Machine.{fresh}
-use Rattle.labelling.specs.Calls.{takeRefusal, joined, Handed, done}
+use Rattle.labelling.specs.Calls.{takeRefusal, done}
 use Rattle.labelling.specs.Once.{Once}
 use Rattle.labelling.proofs.Ordered.{ordered, bytes-within}
 use Rattle.labelling.proofs.CallLaws.{passed, too-long}

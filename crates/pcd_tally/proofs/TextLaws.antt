@@ -7,15 +7,15 @@ use native.Mathlib.Nat.{pow-le-pow-right}
 use native.Mathlib.Numerals.{add-one}
 use native.Mathlib.Omega.{arith}
 use lib.Dec.{leb}
-use lib.ListN.{length, take, set, getD, length-append, length-set, length-take}
+use lib.ListN.{length, take, set, getD, length-append, length-set}
 use lib.Seq.{take-suc, take-suc-set, length-take-le}
 use borrow.Author.Tests.{leb-true, leb-false}
 use Rattle.base.proofs.Lists.{sumBy-append}
 use Rattle.io.specs.Digits.{digits, Fewest}
 use Rattle.labelling.specs.declared.Tally.{Tally}
 use Rattle.pcd_tally.specs.declared.text.Text.{Text}
-use Rattle.pcd_tally.specs.Listing.{ascii, Count, counted, groupCounts, frameCounts, runCounts, LineOf, Lines}
-use Rattle.pcd_tally.specs.Listing.{none, line, most, written, Adds, Lined, Room, ListingPromise}
+use Rattle.pcd_tally.specs.Listing.{ascii, Count, counted, groupCounts, frameCounts, runCounts, Lines}
+use Rattle.pcd_tally.specs.Listing.{none, line, written, Adds, Lined, Room, ListingPromise}
 
 pub adds-byte : (a : Text) (b : ℕ) → a .length < length (a .bytes)
     → Adds a (b ∷ []) (record { bytes = set (a .bytes) (a .length) b; length = a .length + 1 })

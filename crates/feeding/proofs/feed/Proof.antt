@@ -1,5 +1,5 @@
 -- `feeding::feed` meets its contract: the stream is read as far as the place reached, and the next call goes on there. Assumes nothing.
-use mathlib.Core.Path.{_≡_, sym, _∙_, refl}
+use mathlib.Core.Path.{_≡_, _∙_, refl}
 use Prim.Native.Nat.{_-_}
 use native.Mathlib.Omega.{arith}
 use lib.ListN.{length}

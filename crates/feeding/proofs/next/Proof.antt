@@ -1,5 +1,5 @@
 -- `feeding::next` meets its contract: the call's own promise, and a count that goes with it. Assumes nothing.
-use mathlib.Core.Path.{_≡_, subst}
+use mathlib.Core.Path.{subst}
 use mathlib.Core.List.{List}
 use Prim.Native.Nat.{ℕ, _+_, _-_, _≤_}
 use native.Mathlib.Omega.{arith}
@@ -34,10 +34,10 @@ number-requires c κs = search needs
 -- after the count
 module _ (c : tie.After-struct-known2) where
   abbrev called : tie.After-take
-  called = c .before .before .before .before .before .before
+  called = let answered = c .before .before .before in answered .before .before .before
 
   abbrev start : tie.Start
-  start = called .before .before .before .before .before .before
+  start = let begun = called .before .before .before in begun .before .before .before
 
   promised : TakePromise (rest (start .args .f) (now (start .args .stream)) (now (start .args .area))) (called .take .result) (called .take .last .1 .1 .0)
   promised =

@@ -1,6 +1,6 @@
 -- `pcd_tally::fed` meets its contract: its calls are those of `feeding::feed`, which takes the piece unless the bytes are too many. Assumes
 -- nothing.
-use Prim.Native.Nat.{_+_, _≤_, _^_}
+use Prim.Native.Nat.{_≤_}
 use native.Mathlib.Omega.{arith}
 use lib.ListN.{length}
 use denote.Ref.{now}

@@ -1,6 +1,5 @@
 -- `pcd_tally::took` meets its contract: the read's answer is negative, or counts no byte, or so many, which are fed. Assumes nothing.
 use mathlib.Core.Path.{_≡_, sym, ap, _∙_}
-use mathlib.Core.Bool.{Bool, true, false}
 use lib.IntN.{ℤ, pos}
 use lib.ListN.{length}
 use lib.Signed.{ltZ}
@@ -50,12 +49,13 @@ same-length c = search needs
 
 returns-3 : tie.Need-returns-3
 returns-3 c =
-    let some = c .before .before .before .before .before in
+    let fed = c .before .before in
+    let some = fed .before .before .before in
     let counted = some .before in
     let there = counted .before in
     let w = there .before .before .before .before in
     let call = counted .count .ensures in
-    read-more _ _ _ _ _ (sign w ∙ there .if1 .left) (call .1 ∙ sym (count w)) (call .0 .0) (some .if2 .left) (c .before .before .fed .ensures)
+    read-more _ _ _ _ _ (sign w ∙ there .if1 .left) (call .1 ∙ sym (count w)) (call .0 .0) (some .if2 .left) (fed .fed .ensures)
 
 pub took-spec : {M : Type 1} → statement M
 took-spec =

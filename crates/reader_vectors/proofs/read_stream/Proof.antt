@@ -50,7 +50,8 @@ stepped-requires c κs = step-kept (c .before .before .before)
 
 same-length : tie.Need-same-length Inv-loop μ-loop
 same-length c =
-    let v = c .before .before .before .before .before in
+    let answered = c .before .before in
+    let v = answered .before .before .before in
     let probed = turn (after-step v) .before .before .before .before in
     report-kept v ∙ sym (before-probe probed .pre)
 
