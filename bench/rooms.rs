@@ -18,7 +18,8 @@ use stream::Random;
 const ROUNDS: usize = 150;
 
 fn main() {
-    println!("lookup: ns a call, {} instants, random wanted ones, best of {ROUNDS} rounds of {CALLS}; then the proved one's speed as a ratio to each", lookup::MOST);
+    println!("lookup: ns a call, {} instants, random wanted ones, best of {ROUNDS} rounds of {CALLS}", lookup::MOST);
+    println!("then the proved one's speed as a ratio to each");
     println!();
     println!("{:<18} | {:>7} {:>7} {:>15} | {:>7} {:>15}", "lists", "proved", "rule", "partition_point", "rule", "partition_point");
     print_lookup("1 (0.8 MB)", 1);
