@@ -9,7 +9,8 @@ use Rattle.labelling.specs.declared.Framing.{Framing}
 use Rattle.labelling.specs.declared.Runs.{Runs}
 use Rattle.labelling.specs.declared.Tally.{Tally}
 use Rattle.labelling.specs.declared.Word.{Word}
-use Rattle.labelling.specs.Machine.{WordEvent, fills, closes-frame, wordEvent, afterWord, filled, FrameEvent, closedEvent, afterFrame, areaAfter, isComplete, Now}
+use Rattle.labelling.specs.Machine.{WordEvent, fills, closes-frame, wordEvent, afterWord, filled}
+use Rattle.labelling.specs.Machine.{FrameEvent, closedEvent, afterFrame, areaAfter, isComplete, Now}
 use Rattle.plain_steps.specs.declared.layers.Layers.{Layers}
 use Rattle.plain_steps.specs.declared.layers.Stepped.{Stepped}
 use Rattle.plain_steps.specs.declared.major.Ended.{Ended}

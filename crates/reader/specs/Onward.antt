@@ -42,6 +42,10 @@ from i l frame area = record { at = i; tally = tallyOf l frame; area = area }
 abbrev pub ranTo : Ran → List ℕ → List ℕ → Moment
 ranTo r frame area = from (r .at) (r .layers) frame area
 
+-- the whole piece, from m
+abbrev pub fed : List ℕ → Moment → Answer
+fed p m = feed byteVote (m .tally) (m .area) p
+
 -- the call goes on from m
 abbrev pub restFrom : List ℕ → Moment → Answer
 restFrom p m = plus (m .at) (feed byteVote (m .tally) (m .area) (drop (m .at) p))
@@ -59,6 +63,11 @@ pub record Onward (p : List ℕ) (m n : Moment) (complete : Bool) : Type 0 where
   pub forward : m .at ≤ n .at
   pub within : n .at ≤ length p
   pub frame-length : length (n .tally .frame) ≡ minorFrame
+
+-- a part leads from m to what the run r leaves, and takes a byte or more
+pub record Ahead (p : List ℕ) (m : Moment) (r : Ran) (frame area : List ℕ) : Type 0 where
+  pub onward : Onward p m (ranTo r frame area) (r .complete)
+  pub moves : m .at < r .at
 
 -- a stretch leads from t at i to u at j: nothing is complete, and no area is written
 abbrev pub Reaches : List ℕ → ℕ → Tally → ℕ → Tally → Type 0

@@ -20,7 +20,8 @@ returns-2 c = rw (c .if2 .taken)
 
 returns-3 : tie.Need-returns-3
 returns-3 c =
-    let second : c .before .before .before .before .before .args .g .«open» ≡ 2 = omega arith in
+    let inside = c .before .before .before in
+    let second : inside .before .before .args .g .«open» ≡ 2 = omega arith in
     rw second
 
 pub open-byte-spec : {M : Type 1} → statement M

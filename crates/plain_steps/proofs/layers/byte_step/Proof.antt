@@ -42,7 +42,8 @@ returns-2 c =
     let voted = closed .before in
     let third = voted .before in
     let a = third .before .before .before .args in
-    byte-closed (a .l) (now (a .frame)) (now (a .area)) (a .b) (third .if1 .left) (voted .vote .ensures) (closed .close-group .ensures) (stepped .word-step .ensures)
+    byte-closed (a .l) (now (a .frame)) (now (a .area)) (a .b) (third .if1 .left) (voted .vote .ensures) (closed .close-group .ensures)
+    (stepped .word-step .ensures)
 
 pub byte-step-spec : {M : Type 1} → statement M
 byte-step-spec =

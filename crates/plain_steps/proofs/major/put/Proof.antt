@@ -40,7 +40,8 @@ loop-again c =
     let inv = c .before .before .loop .inv in
     let args = c .before .before .before .args in
     let more : i < 128 = search needs in
-    (rw (inv .0, add-one) (paste-suc (now (args .area)) (args .at) (now (args .frame)) i 0 (omega arith) (omega arith)), omega arith, simp length-set (inv .2), inv .3)
+    let more-pasted = paste-suc (now (args .area)) (args .at) (now (args .frame)) i 0 (omega arith) (omega arith) in
+    (rw (inv .0, add-one) more-pasted, omega arith, simp length-set (inv .2), inv .3)
 
 same-length : tie.Need-same-length Inv-loop μ-loop
 same-length c = c .before .loop .inv .2

@@ -22,7 +22,7 @@ returns c =
     let stepped = c .before .before .before in
     let read = stepped .before .before .before in
     let s = read .before .before .before in
-    (now-onward (stepped .byte-step .ensures) (s .pre .0) (s .pre .1), omega arith)
+    record { onward = now-onward (stepped .byte-step .ensures) (s .pre .0) (s .pre .1); moves = omega arith }
 
 pub one-byte-spec : {M : Type 1} → statement M
 one-byte-spec = tie.close (tie.spec shared-slice-read-byte-step byte-step-requires add-t13 same-length returns)

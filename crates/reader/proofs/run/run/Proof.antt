@@ -49,12 +49,12 @@ returns c =
     let a = k .before .before .before .args in
     sym
     (loop-start byteVote (tallyOf (a .l) (now (a .frame))) (now (a .area)) (now (a .piece))
-    ∙ onward-ends (onward-join (k .loop .inv .so-far) (advanced .advance .ensures .0)) (c .if1 .taken))
+    ∙ onward-ends (onward-join (k .loop .inv .so-far) (advanced .advance .ensures .onward)) (c .if1 .taken))
 
 loop-less : tie.Need-loop-less Inv-loop μ-loop
 loop-less c =
     let x = c .before .before .before .before .advance in
-    omega (arith, x .ensures .1, x .ensures .0 .within)
+    omega (arith, x .ensures .moves, x .ensures .onward .within)
 
 loop-again : tie.Need-loop-again Inv-loop μ-loop
 loop-again c =
@@ -62,7 +62,7 @@ loop-again c =
     let k = advanced .before .before .before .before .loop in
     let x = advanced .advance in
     record {
-      so-far = onward-more (k .inv .so-far) (x .ensures .0) (c .if1 .left);
+      so-far = onward-more (k .inv .so-far) (x .ensures .onward) (c .if1 .left);
       area-length = x .kept .1 .1 .1 .1 .0 ∙ k .inv .area-length;
     }
 
