@@ -1,23 +1,12 @@
--- Lists of calls, one after the other: where each is handed on from what the one before left, so is the list of both, and its joined bytes and
--- paid frames are those of both in order. Assumes nothing.
+-- Lists of one call and of none, and what two lists, one after the other, pay. Assumes nothing.
 use mathlib.Core.Path.{_≡_, refl}
 use mathlib.Core.List.{List, [], _∷_, _++_, append-nil}
 use Prim.Native.Nat.{ℕ}
 use Rattle.base.proofs.Lists.{concatMap-append}
-use Rattle.labelling.specs.declared.Tally.{Tally}
 use Rattle.labelling.specs.Words.{Vote}
-use Rattle.labelling.specs.Calls.{Call, takeRefusal, answer, taken, pays, joined, paid, Handed, done, refused, accepted}
+use Rattle.labelling.specs.Calls.{Call, takeRefusal, answer, taken, pays, joined, paid, Handed, done, accepted}
 
 module _ (vote : Vote) where
-  pub handed-append : {t u v : Tally} {a b c : List ℕ} {cs ds : List Call} → Handed vote t a cs u b → Handed vote u b ds v c → Handed vote t a (cs ++ ds) v c
-  handed-append done k = k
-  handed-append (refused c n e h) k = refused c n e (handed-append h k)
-  handed-append (accepted c e h) k = accepted c e (handed-append h k)
-
-  pub joined-append : (cs ds : List Call) → joined vote (cs ++ ds) ≡ joined vote cs ++ joined vote ds
-  unfolding joined
-  joined-append cs ds = concatMap-append (taken vote) cs ds
-
   pub paid-append : (cs ds : List Call) → paid vote (cs ++ ds) ≡ paid vote cs ++ paid vote ds
   unfolding paid
   paid-append cs ds = concatMap-append (pays vote) cs ds

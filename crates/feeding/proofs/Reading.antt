@@ -12,15 +12,14 @@ use Rattle.base.specs.Lists.{one}
 use Rattle.labelling.specs.declared.Tally.{Tally}
 use Rattle.labelling.specs.Words.{byteVote}
 use Rattle.labelling.specs.Calls.{Call, takeRefusal, Answer, answer, taken, pays, joined, paid, Handed, done, refused}
-use Rattle.labelling.proofs.Ordered.{ordered}
-use Rattle.labelling.proofs.Feeding.{ordered-feed}
-use Rattle.labelling.proofs.CallLaws.{Passed, passed, no-refusal, refused-answer, accepted-answer, answer-ordered}
+use Rattle.labelling.proofs.Reaching.{handed-append, joined-append}
+use Rattle.labelling.proofs.CallLaws.{Passed, passed, no-refusal, refused-answer, answer-ordered, accepted-bytes}
 use Rattle.reader.specs.declared.Taken.{Taken}
 use Rattle.reader.specs.Shapes.{callOf, TakePromise}
 use Rattle.reader.proofs.Progress.{moves-on}
 use Rattle.feeding.specs.declared.Fed.{Fed}
 use Rattle.feeding.specs.Promise.{FeedPromise, rest, after, NextPromise}
-use Rattle.feeding.proofs.CallLists.{handed-append, joined-append, paid-append, handed-one, joined-one, paid-one, joined-none, paid-none}
+use Rattle.feeding.proofs.CallLists.{paid-append, handed-one, joined-one, paid-one, joined-none, paid-none}
 use Rattle.feeding.proofs.Laws.{given, withheld}
 
 -- ---- one call more
@@ -96,9 +95,7 @@ module _ (f : Fed) (s a : List ℕ) (e : takeRefusal (rest f s a) ≡ 0) (within
   checked = passed call e
 
   bytes-more : answer byteVote call .tally .groups .bytes ≡ f .tally .groups .bytes + answer byteVote call .taken
-  bytes-more =
-      let o = ordered-feed byteVote (f .tally) a (drop (f .taken) s) (ordered (f .tally) (checked .ordered-tally)) in
-      rw (accepted-answer byteVote call e) (o .bytes-are)
+  bytes-more = accepted-bytes byteVote call e
 
   still-accepts : (b : List ℕ) → length b ≡ length a → f .taken + answer byteVote call .taken ≤ length s → takeRefusal (rest (after f call) s b) ≡ 0
   still-accepts b same h =

@@ -17,7 +17,7 @@ use Rattle.labelling.specs.declared.Word.{Word}
 use Rattle.labelling.specs.MinorFrames.{anyErased, Mode, hunting, placing, Piece, hunted, frame, part, pieces, frameOf, frames, inHunted}
 use Rattle.labelling.specs.MinorFrames.{inPart, classed}
 use Rattle.labelling.specs.MajorFrames.{value, values}
-use Rattle.labelling.specs.Machine.{fresh}
+use Rattle.labelling.specs.Machine.{start}
 use Rattle.labelling.specs.Rest.{latest, huntsAfter, matchIn, partOf, reached, over}
 use Rattle.labelling.proofs.Residual.{Residual, residual-start, residual-now}
 use Rattle.labelling.proofs.Latest.{latest-map}
@@ -98,9 +98,9 @@ frame-begins em ep ee eh r = record {
   hunted-is = eh;
 }
 
-pub framing-fresh : FramingInv (fresh .framing) (fresh .frame) []
-unfolding fresh classed
-framing-fresh = record {
+pub framing-start : FramingInv (start .framing) (start .frame) []
+unfolding start classed
+framing-start = record {
   kept = [];
   out = [];
   state = hunt-begins refl refl refl refl (residual-start (cuts hunting));

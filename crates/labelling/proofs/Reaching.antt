@@ -12,8 +12,9 @@ use Rattle.base.specs.Lists.{concatMap}
 use Rattle.base.proofs.Lists.{concatMap-append}
 use Rattle.labelling.specs.declared.Tally.{Tally}
 use Rattle.labelling.specs.Words.{Vote}
+use Rattle.labelling.specs.Machine.{stateOf}
 use Rattle.labelling.specs.Order.{inOrder}
-use Rattle.labelling.specs.Calls.{Call, takeRefusal, answer, taken, joined, Handed, done, refused, accepted}
+use Rattle.labelling.specs.Calls.{Call, takeRefusal, answer, progressOf, taken, joined, Handed, done, refused, accepted}
 use Rattle.labelling.specs.Calls.{left, Reads, no-call, takes-all, stops}
 use Rattle.labelling.specs.Once.{framesIn, ReadBySome}
 use Rattle.labelling.proofs.RunSteps.{area-length}
@@ -76,7 +77,7 @@ module _ (vote : Vote) where
   module _ (a₀ : List ℕ) where
     -- t and a are left by the bytes xs, and calls may go on
     pub record Reached (t : Tally) (a xs : List ℕ) : Type 0 where
-      pub inv : WholeInv vote a₀ t a xs
+      pub inv : WholeInv vote a₀ (stateOf t) a xs
       pub order : inOrder t ≡ true
 
     -- a call for the piece p is accepted where the bytes fit
@@ -88,12 +89,13 @@ module _ (vote : Vote) where
       call-accepted =
           no-refusal t p a (i .order) (area-length a₀ (t .runs) a (framesIn vote xs) (i .inv .in-runs)) (omega (arith, i .inv .in-groups .bytes-is))
 
-      call-extent : Extent p (answer vote call)
+      call-extent : Extent p (answer vote call .taken) (answer vote call .complete)
       call-extent = accepted-extent vote call call-accepted
 
       call-reached : Reached (answer vote call .tally) (answer vote call .area) (xs ++ take (answer vote call .taken) p)
       call-reached =
-          let r : FedRight vote a₀ xs p (answer vote call) = rw (accepted-answer vote call call-accepted) (feed-right vote a₀ t a xs p (i .inv)) in
+          let r : FedRight vote a₀ xs p (progressOf (answer vote call)) =
+          rw (accepted-answer vote call call-accepted) (feed-right vote a₀ (stateOf t) a xs p (i .inv)) in
           record { inv = r .grown .inv; order = answer-ordered vote call (i .order) }
 
       call-bytes : length (xs ++ take (answer vote call .taken) p) ≡ length xs + answer vote call .taken
@@ -118,7 +120,7 @@ module _ (vote : Vote) where
         accept : takeRefusal c ≡ 0
         accept = call-accepted t a xs p i (omega (arith, whole))
 
-        extent : Extent p (answer vote c)
+        extent : Extent p (answer vote c .taken) (answer vote c .complete)
         extent = call-extent t a xs p i (omega (arith, whole))
 
         after : Reached (answer vote c .tally) (answer vote c .area) (xs ++ take (answer vote c .taken) p)

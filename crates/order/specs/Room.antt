@@ -1,9 +1,9 @@
--- What a step needs so that no count runs over: each tally in order has it (proofs/Rooms.antt). Definitions only.
+-- What a step needs so that no count runs over: each state in order has it (proofs/Rooms.antt). Definitions only.
 use Prim.Native.Nat.{_≤_, _^_}
 use Rattle.labelling.specs.declared.Framing.{Framing}
 use Rattle.labelling.specs.declared.Groups.{Groups}
 use Rattle.labelling.specs.declared.Runs.{Runs}
-use Rattle.labelling.specs.declared.Tally.{Tally}
+use Rattle.labelling.specs.Machine.{State}
 
 pub record GroupsRoom (g : Groups) : Type 0 where
   pub bytes-max : g .bytes ≤ 2 ^ 40
@@ -27,7 +27,7 @@ pub record RunsRoom (r : Runs) : Type 0 where
   pub loose-max : r .loose ≤ 2 ^ 40
   pub building-max : r .building ≤ 127
 
-pub record TallyRoom (t : Tally) : Type 0 where
+pub record StateRoom (t : State) : Type 0 where
   pub in-groups : GroupsRoom (t .groups)
   pub in-framing : FramingRoom (t .framing)
   pub in-runs : RunsRoom (t .runs)

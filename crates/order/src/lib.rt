@@ -1,8 +1,9 @@
 // Whether a tally is in order (paper 01, "The tally and one call"). The tests are joined by `&` and `|`, which do not branch, in the order of
 // the definition.
 ghost use mathlib.Core.Path.{_≡_};
+ghost use Rattle.labelling.specs.Machine.{stateOf};
 ghost use Rattle.labelling.specs.Order.{groupsBounded, framingBounded, framingModes, runsBounded, bytesSum, wordsSum, framesSum, sumsHold, inOrder};
-ghost use Rattle.order.specs.Room.{GroupsRoom, FramingRoom, RunsRoom, TallyRoom};
+ghost use Rattle.order.specs.Room.{GroupsRoom, FramingRoom, RunsRoom, StateRoom};
 use labelling::Framing;
 use labelling::Groups;
 use labelling::Runs;
@@ -68,8 +69,8 @@ fn frames_sum(good: u64, r: Runs) -> bool
 
 // The sums, where the counts are known to be within the limit.
 fn sums(t: Tally) -> bool
-    requires { ⌜ TallyRoom t ⌝ }
-    ensures { λ r. ⌜ r ≡ sumsHold t ⌝ }
+    requires { ⌜ StateRoom (stateOf t) ⌝ }
+    ensures { λ r. ⌜ r ≡ sumsHold (stateOf t) ⌝ }
 {
     let words = t.groups.voted + t.groups.split;
     bytes_sum(t.groups) & words_sum(words, t.framing) & frames_sum(t.framing.good, t.runs)

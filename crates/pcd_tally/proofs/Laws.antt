@@ -17,13 +17,14 @@ use Rattle.labelling.specs.Words.{byteVote}
 use Rattle.labelling.specs.Machine.{fresh}
 use Rattle.labelling.specs.Calls.{takeRefusal, done}
 use Rattle.labelling.specs.Once.{Once}
-use Rattle.labelling.proofs.Ordered.{ordered, bytes-within}
+use Rattle.labelling.proofs.Ordered.{bytes-within}
+use Rattle.labelling.proofs.Reaching.{handed-append, joined-append}
 use Rattle.labelling.proofs.CallLaws.{passed, too-long}
 use Rattle.labelling.proofs.Demand.{once}
 use Rattle.reader.specs.Shapes.{callOf}
 use Rattle.feeding.specs.declared.Fed.{Fed}
 use Rattle.feeding.specs.Promise.{FeedPromise}
-use Rattle.feeding.proofs.CallLists.{handed-append, joined-append, joined-none}
+use Rattle.feeding.proofs.CallLists.{joined-none}
 use Rattle.pcd_tally.specs.declared.Input.{Input}
 use Rattle.pcd_tally.specs.declared.Input.the-variants.{More, Ended, Unreadable, TooLong}
 use Rattle.pcd_tally.specs.declared.State.{State}

@@ -22,7 +22,7 @@ use Rattle.plain_steps.specs.declared.layers.Layers.{Layers}
 use Rattle.plain_steps.specs.declared.major.Ended.{Ended}
 use Rattle.plain_steps.specs.declared.minor.Closing.the-variants.{Nothing, Frame}
 use Rattle.plain_steps.specs.declared.minor.Framed.{Framed}
-use Rattle.plain_steps.specs.Shapes.{eventOf, PlacePromise, EndPromise, tallyOf, nowOf}
+use Rattle.plain_steps.specs.Shapes.{eventOf, PlacePromise, EndPromise, stateWith, nowOf}
 
 -- ---- a word
 
@@ -45,7 +45,7 @@ hunt-quiet m next first bytes n = go next (eqb m 2) first
 
 module _ (l : Layers) (w : Word) (frame area : List ℕ) where
   abbrev stepped : Now
-  stepped = wordStep (some w) (l .groups) (tallyOf l frame) area
+  stepped = wordStep (some w) (l .groups) (stateWith l frame) area
 
   -- the word's event is v, the frame then holds `bytes`, and the run's event is k
   word-as : (v : WordEvent) (bytes : List ℕ) (k : FrameEvent) → wordEvent (l .framing) frame w ≡ v → frameAfter (l .framing) frame w ≡ bytes
@@ -97,11 +97,11 @@ module _ (l : Layers) (frame area : List ℕ) (b : ℕ) where
   opened = l .groups .«open»
 
   pub byte-open : {g : Groups} → opened < 3 → g ≡ afterByte (byteEvent byteVote opened (l .groups) b) (l .groups) b
-      → nowOf (record { layers = layersFrom l g; complete = false }) frame area ≡ byteStep byteVote (tallyOf l frame) area b
+      → nowOf (record { layers = layersFrom l g; complete = false }) frame area ≡ byteStep byteVote (stateWith l frame) area b
   unfolding byteStep
   byte-open h e = rw (e, no-word opened (l .groups) b h)
 
   pub byte-closed : {w : Word} {g : Groups} {n : Now} → 3 ≤ opened → w ≡ byteVote (l .groups .first) (l .groups .second) b → g ≡ afterClosing w (l .groups)
-      → n ≡ wordStep (some w) g (tallyOf l frame) area → n ≡ byteStep byteVote (tallyOf l frame) area b
+      → n ≡ wordStep (some w) g (stateWith l frame) area → n ≡ byteStep byteVote (stateWith l frame) area b
   unfolding byteStep
   byte-closed h ew eg e = e ∙ rw (third-copy opened (l .groups) b h, eg, ew)

@@ -7,10 +7,9 @@ use Rattle.base.specs.Format.{minorFrame, majorFrame}
 use Rattle.labelling.specs.declared.FrameClass.{FrameClass}
 use Rattle.labelling.specs.declared.Framing.{Framing}
 use Rattle.labelling.specs.declared.Runs.{Runs}
-use Rattle.labelling.specs.declared.Tally.{Tally}
 use Rattle.labelling.specs.declared.Word.{Word}
 use Rattle.labelling.specs.Machine.{WordEvent, fills, closes-frame, wordEvent, afterWord, filled}
-use Rattle.labelling.specs.Machine.{FrameEvent, closedEvent, afterFrame, areaAfter, isComplete, Now}
+use Rattle.labelling.specs.Machine.{FrameEvent, closedEvent, afterFrame, areaAfter, isComplete, State, Now}
 use Rattle.plain_steps.specs.declared.layers.Layers.{Layers}
 use Rattle.plain_steps.specs.declared.layers.Stepped.{Stepped}
 use Rattle.plain_steps.specs.declared.major.Ended.{Ended}
@@ -49,9 +48,9 @@ pub record Lent (frame area : List ℕ) : Type 0 where
   pub frame-length : length frame ≡ minorFrame
   pub area-length : length area ≡ majorFrame
 
--- a tally, put together from its layers and its frame
-abbrev pub tallyOf : Layers → List ℕ → Tally
-tallyOf l frame = record { groups = l .groups; framing = l .framing; runs = l .runs; frame = frame }
+-- a state, put together from its layers and its frame
+abbrev pub stateWith : Layers → List ℕ → State
+stateWith l frame = record { groups = l .groups; framing = l .framing; runs = l .runs; frame = frame }
 
 abbrev pub nowOf : Stepped → List ℕ → List ℕ → Now
-nowOf s frame area = record { tally = tallyOf (s .layers) frame; area = area; complete = s .complete }
+nowOf s frame area = record { state = stateWith (s .layers) frame; area = area; complete = s .complete }

@@ -4,9 +4,9 @@ ghost use mathlib.Core.Bool.{true};
 ghost use mathlib.Core.Option.{some};
 ghost use Rattle.labelling.specs.Words.{byteVote};
 ghost use Rattle.labelling.specs.Machine.{wordStep, byteStep};
-ghost use Rattle.labelling.specs.Order.{inOrder};
+ghost use Rattle.labelling.specs.Order.{stateInOrder};
 ghost use Rattle.order.specs.Room.{FramingRoom, RunsRoom};
-ghost use Rattle.plain_steps.specs.Shapes.{Lent, tallyOf, nowOf};
+ghost use Rattle.plain_steps.specs.Shapes.{Lent, stateWith, nowOf};
 use crate::groups;
 use crate::major;
 use crate::minor;
@@ -17,7 +17,7 @@ use labelling::Groups;
 use labelling::Runs;
 use labelling::Word;
 
-// A tally without its frame, which is lent beside it: so a byte copies counts and no frame.
+// A state without its frame, which is lent beside it: so a byte copies counts and no frame.
 pub struct Layers {
     pub groups: Groups,
     pub framing: Framing,
@@ -34,7 +34,7 @@ pub struct Stepped {
 fn word_step(l: Layers, w: Word, frame: &mut [u8; 128], area: &mut [u8]) -> Stepped
     requires { ⌜ FramingRoom (l .framing) × RunsRoom (l .runs) ⌝ }
     requires { ⌜ Lent (now frame) (now area) ⌝ }
-    ensures { λ r. ⌜ nowOf r (now (frame .exit)) (now (area .exit)) ≡ wordStep (some w) (l .groups) (tallyOf l (now (frame .entry))) (now (area .entry)) ⌝ }
+    ensures { λ r. ⌜ nowOf r (now (frame .exit)) (now (area .exit)) ≡ wordStep (some w) (l .groups) (stateWith l (now (frame .entry))) (now (area .entry)) ⌝ }
 {
     let mut next = l;
     if l.framing.hunting {
@@ -65,11 +65,11 @@ fn word_step(l: Layers, w: Word, frame: &mut [u8; 128], area: &mut [u8]) -> Step
     }
 }
 
-// A byte. A leaf for the reader: the tally is in order, and what is lent has its length.
+// A byte. A leaf for the reader: the state is in order, and what is lent has its length.
 pub fn byte_step(l: Layers, b: u8, frame: &mut [u8; 128], area: &mut [u8]) -> Stepped
-    requires { ⌜ inOrder (tallyOf l (now frame)) ≡ true ⌝ }
+    requires { ⌜ stateInOrder (stateWith l (now frame)) ≡ true ⌝ }
     requires { ⌜ Lent (now frame) (now area) ⌝ }
-    ensures { λ r. ⌜ nowOf r (now (frame .exit)) (now (area .exit)) ≡ byteStep byteVote (tallyOf l (now (frame .entry))) (now (area .entry)) b ⌝ }
+    ensures { λ r. ⌜ nowOf r (now (frame .exit)) (now (area .exit)) ≡ byteStep byteVote (stateWith l (now (frame .entry))) (now (area .entry)) b ⌝ }
 {
     let mut next = l;
     if l.groups.open < 3 {

@@ -71,7 +71,7 @@ fn sync_word(m: u64) -> u8
 pub(crate) fn hunt(f: Framing, w: Word) -> Framing
     requires { ⌜ FramingRoom f ⌝ }
     requires { ⌜ f .hunting ≡ true ⌝ }
-    ensures { λ r. ⌜ r ≡ afterWord (huntEvent (f .matched) (isWord (syncWord (f .matched)) w) (isWord 0xfa w)) f w ⌝ }
+    ensures { λ r. ⌜ r ≡ afterWord (huntEvent (f .matched) (isWord (syncWord (f .matched)) w) (isWord (syncWord 0) w)) f w ⌝ }
 {
     let mut next = f;
     next.hunted += 1;

@@ -6,8 +6,9 @@ use Prim.Native.Nat.{ℕ, suc}
 use native.Mathlib.Omega.{arith}
 use Rattle.labelling.specs.declared.Tally.{Tally}
 use Rattle.labelling.specs.Words.{byteVote}
+use Rattle.labelling.specs.Machine.{stateOf}
 use Rattle.labelling.specs.Order.{inOrder}
-use Rattle.labelling.specs.Calls.{Answer, feed, takeRefusal, answer}
+use Rattle.labelling.specs.Calls.{Answer, answerWith, feed, takeRefusal, answer}
 use Rattle.labelling.proofs.Feeding.{Extent, feed-extent}
 use Rattle.labelling.proofs.CallLaws.{refused-answer, accepted-answer, answer-ordered}
 use Rattle.reader.specs.declared.Taken.{Taken}
@@ -24,12 +25,12 @@ module _ {t : Tally} {p a : List ℕ} where
     stays-ordered = λ o. o;
   }
 
-  pub accepted-promise : {r : Taken} {a′ : List ℕ} → r .refusal ≡ 0 → takeRefusal (callOf t p a) ≡ 0 → answerOf r a′ ≡ feed byteVote t a p
+  pub accepted-promise : {r : Taken} {a′ : List ℕ} → r .refusal ≡ 0 → takeRefusal (callOf t p a) ≡ 0 → answerOf r a′ ≡ answerWith (feed byteVote (stateOf t) a p)
       → TakePromise (callOf t p a) r a′
   accepted-promise {r} {a′} z q e =
       let c = callOf t p a in
       let same : answerOf r a′ ≡ answer byteVote c = e ∙ sym (accepted-answer byteVote c q) in
-      let extent : Extent p (answerOf r a′) = rw e (feed-extent byteVote t a p) in
+      let extent : Extent p (answerOf r a′ .taken) (answerOf r a′ .complete) = rw e (feed-extent byteVote (stateOf t) a p) in
       record {
         refusal-is = z ∙ sym q;
         answer-is = same;

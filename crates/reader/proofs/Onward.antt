@@ -11,12 +11,11 @@ use Rattle.base.specs.Format.{SYNC}
 use Rattle.labelling.specs.declared.Framing.{Framing}
 use Rattle.labelling.specs.declared.Groups.{Groups}
 use Rattle.labelling.specs.declared.Runs.{Runs}
-use Rattle.labelling.specs.declared.Tally.{Tally}
 use Rattle.labelling.specs.declared.Word.{Word}
 use Rattle.labelling.specs.Words.{byteVote}
 use Rattle.labelling.specs.MajorFrames.{value}
-use Rattle.labelling.specs.Machine.{ByteEvent, afterByte, Now, wordStep, wordGiven, byteEvent, byteStep}
-use Rattle.labelling.specs.Order.{inOrder}
+use Rattle.labelling.specs.Machine.{ByteEvent, afterByte, State, Now, wordStep, wordGiven, byteEvent, byteStep}
+use Rattle.labelling.specs.Order.{stateInOrder}
 use Rattle.labelling.proofs.Ordered.{ordered, in-order, ordered-byte, bytes-byte}
 use Rattle.labelling.proofs.Feeding.{loop-more, loop-complete}
 use Rattle.quiet.specs.Quiet.{Byte, Quiet}
@@ -24,12 +23,12 @@ use Rattle.nominal.specs.Stretches.{Stored, Hunted, lastOr}
 use Rattle.nominal.specs.Effect.{PlainSteps, stays, byte, withWords, withQuiet, withPlaced, withHunted, afterQuiet}
 use Rattle.nominal.proofs.Effect.{plain-join, plain-feed, plain-ordered, plain-bytes, group-opens, quiet-plain, placed-plain, hunted-plain}
 use Rattle.plain_steps.specs.declared.layers.Layers.{Layers}
-use Rattle.plain_steps.specs.Shapes.{tallyOf}
+use Rattle.plain_steps.specs.Shapes.{stateWith}
 use Rattle.reader.specs.Onward.{Begun, Moment, restFrom, goesOn, Onward, Reaches, Words, opened}
 
 -- ---- a byte
 
-frame-byte : (t : Tally) (a : List ℕ) (b : ℕ) → length (byteStep byteVote t a b .tally .frame) ≡ length (t .frame)
+frame-byte : (t : State) (a : List ℕ) (b : ℕ) → length (byteStep byteVote t a b .state .frame) ≡ length (t .frame)
 unfolding byteStep
 frame-byte t a b = go (wordGiven e)
   where
@@ -40,51 +39,51 @@ frame-byte t a b = go (wordGiven e)
     stored true w = refl
     stored false w = length-set (t .frame) (t .framing .placed) (value w)
 
-    go : (m : Option Word) → length (wordStep m (afterByte e (t .groups) b) t a .tally .frame) ≡ length (t .frame)
+    go : (m : Option Word) → length (wordStep m (afterByte e (t .groups) b) t a .state .frame) ≡ length (t .frame)
     go none = refl
     go (some w) = stored (t .framing .hunting) w
 
 -- where a byte leads: one place on
 abbrev after : ℕ → Now → Moment
-after i n = record { at = i + 1; tally = n .tally; area = n .area }
+after i n = record { at = i + 1; state = n .state; area = n .area }
 
 -- the byte at m leaves n
-pub now-onward : {p : List ℕ} {m : Moment} {n : Now} → n ≡ byteStep byteVote (m .tally) (m .area) (getD p (m .at) 0) → Begun p (m .at) (m .tally)
+pub now-onward : {p : List ℕ} {m : Moment} {n : Now} → n ≡ byteStep byteVote (m .state) (m .area) (getD p (m .at) 0) → Begun p (m .at) (m .state)
     → m .at < length p → Onward p m (after (m .at) n) (n .complete)
 now-onward {p} {m} {n} e b h =
-    let t = m .tally in
+    let t = m .state in
     let x = getD p (m .at) 0 in
-    let more : byteStep byteVote t (m .area) x .tally .groups .bytes ≡ t .groups .bytes + 1 = bytes-byte byteVote t (m .area) x in
-    let bytes : n .tally .groups .bytes ≡ t .groups .bytes + 1 = ap (λ (y : Now). y .tally .groups .bytes) e ∙ more in
-    let still = in-order (byteStep byteVote t (m .area) x .tally) (ordered-byte byteVote t (m .area) x (ordered t (b .order))) (omega arith) in
+    let more : byteStep byteVote t (m .area) x .state .groups .bytes ≡ t .groups .bytes + 1 = bytes-byte byteVote t (m .area) x in
+    let bytes : n .state .groups .bytes ≡ t .groups .bytes + 1 = ap (λ (y : Now). y .state .groups .bytes) e ∙ more in
+    let still = in-order (byteStep byteVote t (m .area) x .state) (ordered-byte byteVote t (m .area) x (ordered t (b .order))) (omega arith) in
     record {
       rest = go (n .complete) refl;
-      order = ap (λ (y : Now). inOrder (y .tally)) e ∙ still;
+      order = ap (λ (y : Now). stateInOrder (y .state)) e ∙ still;
       bytes-are = omega arith;
       forward = omega arith;
       within = omega arith;
-      frame-length = ap (λ (y : Now). length (y .tally .frame)) e ∙ frame-byte t (m .area) x ∙ b .frame-length;
+      frame-length = ap (λ (y : Now). length (y .state .frame)) e ∙ frame-byte t (m .area) x ∙ b .frame-length;
     }
   where
     leads : Bool → Now → Type 0
     leads c y = y .complete ≡ c → restFrom p m ≡ goesOn c p (after (m .at) y)
 
     go : (c : Bool) → leads c n
-    go true = subst (leads true) (sym e) (loop-complete byteVote (m .tally) (m .area) p (m .at) h)
-    go false = subst (leads false) (sym e) (loop-more byteVote (m .tally) (m .area) p (m .at) h)
+    go true = subst (leads true) (sym e) (loop-complete byteVote (m .state) (m .area) p (m .at) h)
+    go false = subst (leads false) (sym e) (loop-more byteVote (m .state) (m .area) p (m .at) h)
 
 -- ---- plain steps
 
 module _ {p a : List ℕ} where
-  plain-inside : {i j : ℕ} {t u : Tally} → PlainSteps p a i t j u → i ≤ length p → (i ≤ j) × (j ≤ length p)
+  plain-inside : {i j : ℕ} {t u : State} → PlainSteps p a i t j u → i ≤ length p → (i ≤ j) × (j ≤ length p)
   plain-inside stays h = (omega arith, h)
   plain-inside (byte l e n) h = let r = plain-inside n (omega arith) in (omega (arith, r .0), r .1)
 
-  plain-frame : {i j : ℕ} {t u : Tally} → PlainSteps p a i t j u → length (u .frame) ≡ length (t .frame)
+  plain-frame : {i j : ℕ} {t u : State} → PlainSteps p a i t j u → length (u .frame) ≡ length (t .frame)
   plain-frame stays = refl
-  plain-frame {i} {t = t} (byte l e n) = plain-frame n ∙ sym (ap (λ (x : Now). length (x .tally .frame)) e) ∙ frame-byte t a (getD p i 0)
+  plain-frame {i} {t = t} (byte l e n) = plain-frame n ∙ sym (ap (λ (x : Now). length (x .state .frame)) e) ∙ frame-byte t a (getD p i 0)
 
-pub plain-onward : {p : List ℕ} {i j : ℕ} {t u : Tally} → ((a : List ℕ) → PlainSteps p a i t j u) → Begun p i t → Reaches p i t j u
+pub plain-onward : {p : List ℕ} {i j : ℕ} {t u : State} → ((a : List ℕ) → PlainSteps p a i t j u) → Begun p i t → Reaches p i t j u
 plain-onward {u = u} s b a =
     let n = s a in
     let bytes = plain-bytes n in
@@ -100,7 +99,7 @@ plain-onward {u = u} s b a =
 
 -- ---- one part after another
 
-pub none-onward : {p : List ℕ} {i : ℕ} {t : Tally} → Begun p i t → Reaches p i t i t
+pub none-onward : {p : List ℕ} {i : ℕ} {t : State} → Begun p i t → Reaches p i t i t
 none-onward b = plain-onward (λ a. stays) b
 
 pub onward-join : {p : List ℕ} {m n o : Moment} {c : Bool} → Onward p m n false → Onward p n o c → Onward p m o c
@@ -121,7 +120,7 @@ pub onward-more : {p : List ℕ} {m n o : Moment} {c : Bool} → Onward p m n fa
 onward-more {p} {m} {o = o} g h e = subst (λ (b : Bool). Onward p m o b) e (onward-join g h)
 
 -- what the next part finds
-pub onward-begun : {p : List ℕ} {m n : Moment} {c : Bool} → Onward p m n c → Begun p (m .at) (m .tally) → Begun p (n .at) (n .tally)
+pub onward-begun : {p : List ℕ} {m n : Moment} {c : Bool} → Onward p m n c → Begun p (m .at) (m .state) → Begun p (n .at) (n .state)
 onward-begun g b = record {
   order = g .order;
   fits = record { inside = g .within; limit = omega (arith, g .bytes-are, g .forward, g .within, b .fits .limit) };
@@ -176,7 +175,7 @@ last-stored (x ∷ y ∷ vs) f q h s =
 abbrev layersOf : Groups → Framing → Runs → Layers
 layersOf g f r = record { groups = g; framing = f; runs = r }
 
-module _ {l : Layers} {frame p : List ℕ} {i : ℕ} (b : Begun p i (tallyOf l frame)) where
+module _ {l : Layers} {frame p : List ℕ} {i : ℕ} (b : Begun p i (stateWith l frame)) where
   pub placed-words : {j q : ℕ} {frame′ : List ℕ} (s : Stored p i j (l .framing .placed) q frame frame′) (w x : ℕ) → w ≡ q - l .framing .placed
       → l .framing .placed ≤ 127 → (0 < q → x ≡ getD frame′ (q - 1) 0) → Words (s .words) w x
   placed-words {q = q} s w x ew h ex = record {
@@ -190,30 +189,30 @@ module _ {l : Layers} {frame p : List ℕ} {i : ℕ} (b : Begun p i (tallyOf l f
 
   -- no group is open
   module _ (closed : l .groups .«open» ≡ 0) where
-    abbrev t : Tally
-    t = tallyOf l frame
+    abbrev t : State
+    t = stateWith l frame
 
     pub place-onward : {j q : ℕ} {frame′ : List ℕ} (s : Stored p i j (l .framing .placed) q frame frame′) {g : Groups}
         → l .framing .hunting ≡ false → l .framing .placed ≤ 127 → g ≡ withWords (l .groups) (j - i) (s .words)
-        → Reaches p i t j (tallyOf (layersOf g (withPlaced (l .framing) (length (s .words))) (l .runs)) frame′)
+        → Reaches p i t j (stateWith (layersOf g (withPlaced (l .framing) (length (s .words))) (l .runs)) frame′)
     place-onward s h r e =
         rw (e, s .frame-is)
         (plain-onward
         (λ a. placed-plain {a = a} (s .stretch) t record { closed = closed; places = h; room = omega (arith, s .place-is, s .room r) }) b)
 
     pub hunt-onward : {j w x : ℕ} (s : Hunted p i j w x) {g : Groups} → l .framing .hunting ≡ true → l .framing .matched ≡ 0
-        → g ≡ withWords (l .groups) (j - i) (s .words) → Reaches p i t j (tallyOf (layersOf g (withHunted (l .framing) w) (l .runs)) frame)
+        → g ≡ withWords (l .groups) (j - i) (s .words) → Reaches p i t j (stateWith (layersOf g (withHunted (l .framing) w) (l .runs)) frame)
     hunt-onward s h m e =
         rw (e, s .count-is)
         (plain-onward
         (λ a. hunted-plain {a = a} (s .stretch) t record { closed = closed; hunts = h; unmatched = m; none-begins = s .none-begins }) b)
 
     pub quiet-onward : {j k : ℕ} {g : Groups} → Quiet p i j k → g ≡ withQuiet (l .groups) (j - i) k
-        → Reaches p i t j (tallyOf (layersOf g (l .framing) (l .runs)) frame)
+        → Reaches p i t j (stateWith (layersOf g (l .framing) (l .runs)) frame)
     quiet-onward q e = rw e (plain-onward (λ a. quiet-plain {a = a} q t closed) b)
 
     -- and then SYNC and two copies
     pub opened-onward : {j k x y : ℕ} {g : Groups} → Quiet p i j k → Byte p j SYNC → Byte p (j + 1) x → Byte p (j + 2) y
-        → g ≡ withQuiet (l .groups) (j - i) k → Reaches p i t (j + 3) (tallyOf (layersOf (opened g x y) (l .framing) (l .runs)) frame)
+        → g ≡ withQuiet (l .groups) (j - i) k → Reaches p i t (j + 3) (stateWith (layersOf (opened g x y) (l .framing) (l .runs)) frame)
     opened-onward {j} {k} q sync x y e =
         rw e (plain-onward (λ a. plain-join (quiet-plain {a = a} q t closed) (group-opens (afterQuiet t (j - i) k) closed sync x y)) b)

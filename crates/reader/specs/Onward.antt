@@ -6,13 +6,13 @@ use Prim.Native.Nat.{ℕ, _+_, _-_, _≤_, _<_, _^_}
 use lib.ListN.{length, drop}
 use Rattle.base.specs.Format.{minorFrame}
 use Rattle.labelling.specs.declared.Groups.{Groups}
-use Rattle.labelling.specs.declared.Tally.{Tally}
+use Rattle.labelling.specs.Machine.{State}
 use Rattle.labelling.specs.Words.{byteVote}
-use Rattle.labelling.specs.Order.{inOrder}
-use Rattle.labelling.specs.Calls.{Answer, plus, feed}
+use Rattle.labelling.specs.Order.{stateInOrder}
+use Rattle.labelling.specs.Calls.{Progress, plus, feed}
 use Rattle.nominal.specs.Stretches.{lastOr}
 use Rattle.plain_steps.specs.declared.layers.Layers.{Layers}
-use Rattle.plain_steps.specs.Shapes.{tallyOf}
+use Rattle.plain_steps.specs.Shapes.{stateWith}
 use Rattle.reader.specs.declared.run.Ran.{Ran}
 
 -- ---- what a part finds
@@ -22,47 +22,47 @@ pub record Fits (g : Groups) (p : List ℕ) (i : ℕ) : Type 0 where
   pub inside : i ≤ length p
   pub limit : g .bytes + (length p - i) ≤ 2 ^ 40
 
--- a part begins at place i of the piece p with the tally t
-pub record Begun (p : List ℕ) (i : ℕ) (t : Tally) : Type 0 where
-  pub order : inOrder t ≡ true
+-- a part begins at place i of the piece p with the state t
+pub record Begun (p : List ℕ) (i : ℕ) (t : State) : Type 0 where
+  pub order : stateInOrder t ≡ true
   pub fits : Fits (t .groups) p i
   pub frame-length : length (t .frame) ≡ minorFrame
 
 -- ---- what it leaves
 
--- how far a call has come, with which tally and area
+-- how far a call has come, with which state and area
 pub record Moment : Type 0 where
   pub at : ℕ
-  pub tally : Tally
+  pub state : State
   pub area : List ℕ
 
 abbrev pub from : ℕ → Layers → List ℕ → List ℕ → Moment
-from i l frame area = record { at = i; tally = tallyOf l frame; area = area }
+from i l frame area = record { at = i; state = stateWith l frame; area = area }
 
 abbrev pub ranTo : Ran → List ℕ → List ℕ → Moment
 ranTo r frame area = from (r .at) (r .layers) frame area
 
 -- the whole piece, from m
-abbrev pub fed : List ℕ → Moment → Answer
-fed p m = feed byteVote (m .tally) (m .area) p
+abbrev pub fed : List ℕ → Moment → Progress
+fed p m = feed byteVote (m .state) (m .area) p
 
 -- the call goes on from m
-abbrev pub restFrom : List ℕ → Moment → Answer
-restFrom p m = plus (m .at) (feed byteVote (m .tally) (m .area) (drop (m .at) p))
+abbrev pub restFrom : List ℕ → Moment → Progress
+restFrom p m = plus (m .at) (feed byteVote (m .state) (m .area) (drop (m .at) p))
 
 -- the call ends at m where a major frame is complete, and goes on there where none is
-abbrev pub goesOn : Bool → List ℕ → Moment → Answer
-goesOn true p m = record { tally = m .tally; area = m .area; taken = m .at; complete = true }
+abbrev pub goesOn : Bool → List ℕ → Moment → Progress
+goesOn true p m = record { state = m .state; area = m .area; taken = m .at; complete = true }
 goesOn false p m = restFrom p m
 
 -- a part of a call of the piece p leads from m to n
 pub record Onward (p : List ℕ) (m n : Moment) (complete : Bool) : Type 0 where
   pub rest : restFrom p m ≡ goesOn complete p n
-  pub order : inOrder (n .tally) ≡ true
-  pub bytes-are : n .tally .groups .bytes + m .at ≡ m .tally .groups .bytes + n .at
+  pub order : stateInOrder (n .state) ≡ true
+  pub bytes-are : n .state .groups .bytes + m .at ≡ m .state .groups .bytes + n .at
   pub forward : m .at ≤ n .at
   pub within : n .at ≤ length p
-  pub frame-length : length (n .tally .frame) ≡ minorFrame
+  pub frame-length : length (n .state .frame) ≡ minorFrame
 
 -- a part leads from m to what the run r leaves, and takes a byte or more
 pub record Ahead (p : List ℕ) (m : Moment) (r : Ran) (frame area : List ℕ) : Type 0 where
@@ -70,12 +70,12 @@ pub record Ahead (p : List ℕ) (m : Moment) (r : Ran) (frame area : List ℕ) :
   pub moves : m .at < r .at
 
 -- a stretch leads from t at i to u at j: nothing is complete, and no area is written
-abbrev pub Reaches : List ℕ → ℕ → Tally → ℕ → Tally → Type 0
-Reaches p i t j u = (a : List ℕ) → Onward p (record { at = i; tally = t; area = a }) (record { at = j; tally = u; area = a }) false
+abbrev pub Reaches : List ℕ → ℕ → State → ℕ → State → Type 0
+Reaches p i t j u = (a : List ℕ) → Onward p (record { at = i; state = t; area = a }) (record { at = j; state = u; area = a }) false
 
 -- the same of the layers alone: no frame is written
 abbrev pub ReachesAnyFrame : List ℕ → ℕ → Layers → ℕ → Layers → Type 0
-ReachesAnyFrame p i l j m = (frame : List ℕ) → Begun p i (tallyOf l frame) → Reaches p i (tallyOf l frame) j (tallyOf m frame)
+ReachesAnyFrame p i l j m = (frame : List ℕ) → Begun p i (stateWith l frame) → Reaches p i (stateWith l frame) j (stateWith m frame)
 
 -- ---- counts added at once
 

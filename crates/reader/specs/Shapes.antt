@@ -7,13 +7,13 @@ use lib.ListN.{length}
 use Rattle.labelling.specs.declared.Tally.{Tally}
 use Rattle.labelling.specs.Words.{byteVote}
 use Rattle.labelling.specs.Order.{inOrder}
-use Rattle.labelling.specs.Calls.{Call, takeRefusal, Answer, answer}
-use Rattle.plain_steps.specs.Shapes.{tallyOf}
+use Rattle.labelling.specs.Calls.{Call, takeRefusal, Answer, Progress, answer}
+use Rattle.plain_steps.specs.Shapes.{stateWith}
 use Rattle.reader.specs.declared.run.Ran.{Ran}
 use Rattle.reader.specs.declared.Taken.{Taken}
 
-abbrev pub ranOf : Ran → List ℕ → List ℕ → Answer
-ranOf r frame area = record { tally = tallyOf (r .layers) frame; area = area; taken = r .at; complete = r .complete }
+abbrev pub ranOf : Ran → List ℕ → List ℕ → Progress
+ranOf r frame area = record { state = stateWith (r .layers) frame; area = area; taken = r .at; complete = r .complete }
 
 abbrev pub callOf : Tally → List ℕ → List ℕ → Call
 callOf t piece area = record { tally = t; piece = piece; area = area }

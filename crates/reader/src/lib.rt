@@ -11,7 +11,8 @@ ghost use Rattle.base.specs.Format.{majorFrame};
 ghost use Rattle.labelling.specs.Words.{byteVote};
 ghost use Rattle.labelling.specs.Once.{FreshPromise};
 ghost use Rattle.labelling.specs.Order.{inOrder};
-ghost use Rattle.plain_steps.specs.Shapes.{tallyOf};
+ghost use Rattle.labelling.specs.Machine.{tallyOf};
+ghost use Rattle.plain_steps.specs.Shapes.{stateWith};
 ghost use Rattle.reader.specs.Shapes.{callOf, refusedWith, TakePromise};
 use base::format::MAJOR_FRAME;
 use base::refusal::NOT_IN_ORDER;
@@ -127,7 +128,7 @@ fn accepted(t: Tally, piece: &[u8], area: &mut [u8]) -> Taken
 }
 
 fn together(l: Layers, frame: [u8; 128]) -> Tally
-    ensures { λ r. ⌜ r ≡ tallyOf l frame ⌝ }
+    ensures { λ r. ⌜ r ≡ tallyOf (stateWith l frame) ⌝ }
 {
     let groups = l.groups;
     let framing = l.framing;

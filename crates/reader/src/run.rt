@@ -3,7 +3,7 @@ ghost use mathlib.Core.Path.{_≡_};
 ghost use Prim.Native.Nat.{_<_};
 ghost use lib.ListN.{length};
 ghost use Rattle.base.specs.Format.{majorFrame};
-ghost use Rattle.plain_steps.specs.Shapes.{tallyOf};
+ghost use Rattle.plain_steps.specs.Shapes.{stateWith};
 ghost use Rattle.reader.specs.Onward.{Begun, from, fed, Ahead};
 ghost use Rattle.reader.specs.Shapes.{ranOf};
 use crate::stretch;
@@ -18,7 +18,7 @@ pub(crate) struct Ran {
 
 // One byte of the piece.
 fn one_byte(l: Layers, piece: &[u8], at: usize, frame: &mut [u8; 128], area: &mut [u8]) -> Ran
-    requires { ⌜ Begun (now piece) at (tallyOf l (now frame)) × (at < length (now piece)) × (length (now area) ≡ majorFrame) ⌝ }
+    requires { ⌜ Begun (now piece) at (stateWith l (now frame)) × (at < length (now piece)) × (length (now area) ≡ majorFrame) ⌝ }
     ensures { λ r. ⌜ Ahead (now (piece .entry)) (from at l (now (frame .entry)) (now (area .entry))) r (now (frame .exit)) (now (area .exit)) ⌝ }
 {
     let s = plain_steps::byte_step(l, piece[at], frame, area);
@@ -32,7 +32,7 @@ fn one_byte(l: Layers, piece: &[u8], at: usize, frame: &mut [u8; 128], area: &mu
 
 // A stretch, and the byte after it, by the plain step: so all that closes a frame goes one way.
 fn advance(l: Layers, piece: &[u8], at: usize, frame: &mut [u8; 128], area: &mut [u8]) -> Ran
-    requires { ⌜ Begun (now piece) at (tallyOf l (now frame)) × (at < length (now piece)) × (length (now area) ≡ majorFrame) ⌝ }
+    requires { ⌜ Begun (now piece) at (stateWith l (now frame)) × (at < length (now piece)) × (length (now area) ≡ majorFrame) ⌝ }
     ensures { λ r. ⌜ Ahead (now (piece .entry)) (from at l (now (frame .entry)) (now (area .entry))) r (now (frame .exit)) (now (area .exit)) ⌝ }
 {
     let r = stretch::reach(l, piece, at, frame);
@@ -49,7 +49,7 @@ fn advance(l: Layers, piece: &[u8], at: usize, frame: &mut [u8; 128], area: &mut
 
 // A piece from its first byte on.
 pub(crate) fn run(l: Layers, piece: &[u8], frame: &mut [u8; 128], area: &mut [u8]) -> Ran
-    requires { ⌜ Begun (now piece) 0 (tallyOf l (now frame)) × (length (now area) ≡ majorFrame) ⌝ }
+    requires { ⌜ Begun (now piece) 0 (stateWith l (now frame)) × (length (now area) ≡ majorFrame) ⌝ }
     ensures { λ r. ⌜ ranOf r (now (frame .exit)) (now (area .exit)) ≡ fed (now (piece .entry)) (from 0 l (now (frame .entry)) (now (area .entry))) ⌝ }
 {
     let mut next = l;

@@ -7,7 +7,7 @@ ghost use Prim.Native.Nat.{ℕ, _*_, _-_, _≤_, _<_, _^_};
 ghost use lib.ListN.{getD};
 ghost use Rattle.nominal.specs.Effect.{withWords, withQuiet};
 ghost use Rattle.order.specs.Room.{GroupsRoom, FramingRoom};
-ghost use Rattle.plain_steps.specs.Shapes.{tallyOf};
+ghost use Rattle.plain_steps.specs.Shapes.{stateWith};
 ghost use Rattle.reader.specs.Onward.{Fits, Begun, Reaches, ReachesAnyFrame, Words, opened as openedWith};
 use labelling::Groups;
 use plain_steps::Layers;
@@ -73,9 +73,9 @@ fn last_of(frame: &[u8; 128], placed: usize) -> u8
 
 // A nominal stretch while words are placed.
 fn place_run(l: Layers, piece: &[u8], at: usize, frame: &mut [u8; 128]) -> Reached
-    requires { ⌜ Begun (now piece) at (tallyOf l (now frame)) ⌝ }
+    requires { ⌜ Begun (now piece) at (stateWith l (now frame)) ⌝ }
     requires { ⌜ (l .groups .«open» ≡ 0) × (l .framing .hunting ≡ false) ⌝ }
-    ensures { λ r. ⌜ Reaches (now (piece .entry)) at (tallyOf l (now (frame .entry))) (r .at) (tallyOf (r .layers) (now (frame .exit))) ⌝ }
+    ensures { λ r. ⌜ Reaches (now (piece .entry)) at (stateWith l (now (frame .entry))) (r .at) (stateWith (r .layers) (now (frame .exit))) ⌝ }
     ensures { λ r. ⌜ r .layers .groups .«open» ≡ 0 ⌝ }
 {
     let start = l.framing.placed as usize;
@@ -118,9 +118,9 @@ fn hunt_run(l: Layers, piece: &[u8], at: usize) -> Reached
 
 // What is nominal from `at` on. It may be nothing.
 fn nominal_run(l: Layers, piece: &[u8], at: usize, frame: &mut [u8; 128]) -> Reached
-    requires { ⌜ Begun (now piece) at (tallyOf l (now frame)) ⌝ }
+    requires { ⌜ Begun (now piece) at (stateWith l (now frame)) ⌝ }
     requires { ⌜ l .groups .«open» ≡ 0 ⌝ }
-    ensures { λ r. ⌜ Reaches (now (piece .entry)) at (tallyOf l (now (frame .entry))) (r .at) (tallyOf (r .layers) (now (frame .exit))) ⌝ }
+    ensures { λ r. ⌜ Reaches (now (piece .entry)) at (stateWith l (now (frame .entry))) (r .at) (stateWith (r .layers) (now (frame .exit))) ⌝ }
     ensures { λ r. ⌜ r .layers .groups .«open» ≡ 0 ⌝ }
 {
     if l.framing.hunting {
@@ -156,8 +156,8 @@ fn open_group(l: Layers, piece: &[u8], at: usize) -> Reached
 // As far as nothing can close but FILL and nominal groups before the last place: up to the third copy of any other group, a group that is
 // open already, or the last bytes of the piece.
 pub(crate) fn reach(l: Layers, piece: &[u8], at: usize, frame: &mut [u8; 128]) -> Reached
-    requires { ⌜ Begun (now piece) at (tallyOf l (now frame)) ⌝ }
-    ensures { λ r. ⌜ Reaches (now (piece .entry)) at (tallyOf l (now (frame .entry))) (r .at) (tallyOf (r .layers) (now (frame .exit))) ⌝ }
+    requires { ⌜ Begun (now piece) at (stateWith l (now frame)) ⌝ }
+    ensures { λ r. ⌜ Reaches (now (piece .entry)) at (stateWith l (now (frame .entry))) (r .at) (stateWith (r .layers) (now (frame .exit))) ⌝ }
 {
     if l.groups.open != 0 {
         return Reached { layers: l, at: at };

@@ -3,6 +3,7 @@ use mathlib.Core.Path.{_≡_, _∙_}
 use mathlib.Core.Bool.{_&&_}
 use borrow.Author.Tests.{not-true, not-false}
 use Rattle.labelling.specs.declared.Tally.{Tally}
+use Rattle.labelling.specs.Machine.{stateOf}
 use Rattle.order.proofs.Rooms.{bounded, bounded-room}
 use Rattle.order.proofs.Tested.{bounded-as, out-of-bounds, within-bounds}
 use borrow.Author.Needs.{needs}
@@ -14,7 +15,7 @@ module _ (c : tie.After-runs-bounded) where
   abbrev t : Tally
   t = c .before .before .before .args .t
 
-  bounds-are : bounded t ≡ (c .before .before .groups-bounded .result && c .before .framing-bounded .result && c .runs-bounded .result)
+  bounds-are : bounded (stateOf t) ≡ (c .before .before .groups-bounded .result && c .before .framing-bounded .result && c .runs-bounded .result)
   bounds-are = bounded-as t (c .before .before .groups-bounded .ensures) (c .before .framing-bounded .ensures) (c .runs-bounded .ensures)
 
 groups-bounded-requires : tie.Need-groups-bounded-requires
@@ -35,7 +36,7 @@ framing-modes-requires c κs = search needs
 sums-requires : tie.Need-sums-requires
 sums-requires c κs =
     let tested = c .before .before in
-    bounded-room (t tested) (bounds-are tested ∙ not-false _ (c .before .if1 .left))
+    bounded-room (stateOf (t tested)) (bounds-are tested ∙ not-false _ (c .before .if1 .left))
 
 returns-2 : tie.Need-returns-2
 returns-2 c =

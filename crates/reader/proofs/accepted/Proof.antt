@@ -1,8 +1,10 @@
 -- `reader::accepted` meets its contract: the tally, taken apart and put together again, is the tally that the run leaves. Assumes nothing.
-use mathlib.Core.Path.{refl}
+use mathlib.Core.Path.{refl, ap}
 use native.Mathlib.Omega.{arith}
 use denote.Ref.{now}
 use Rattle.labelling.proofs.CallLaws.{no-refusal}
+use Rattle.labelling.proofs.Ordered.{state-in-order}
+use Rattle.labelling.specs.Calls.{Progress, answerWith}
 use Rattle.reader.proofs.Answers.{accepted-promise}
 use borrow.Author.Needs.{needs}
 use Rattle.reader.proofs.accepted.Statement.{statement}
@@ -16,7 +18,7 @@ run-requires : tie.Need-run-requires
 run-requires c κs =
     let s = start (c .before .before .before) in (
       record {
-        order = s .pre .0;
+        order = state-in-order (s .args .t) (s .pre .0);
         fits = record { inside = omega arith; limit = omega (arith, s .pre .2) };
         frame-length = search needs;
       },
@@ -35,7 +37,7 @@ returns c =
     let s = start (ran .before .before .before .before) in
     let a = s .args in
     let q = no-refusal (a .t) (now (a .piece)) (now (a .area)) (s .pre .0) (s .pre .1) (s .pre .2) in
-    accepted-promise refl q (rw (c .together .ensures) (ran .run .ensures))
+    accepted-promise refl q (rw (c .together .ensures) (ap (λ (r : Progress). answerWith r) (ran .run .ensures)))
 
 pub accepted-spec : {M : Type 1} → statement M
 accepted-spec = tie.close (tie.spec run-requires together-requires same-length returns)

@@ -1,16 +1,16 @@
 -- `plain_steps::layers::byte_step` meets its contract: fewer than three bytes are open, or the byte is a third copy and gives a word. Assumes nothing.
 use denote.Ref.{now}
-use Rattle.order.specs.Room.{TallyRoom}
-use Rattle.plain_steps.specs.Shapes.{tallyOf}
+use Rattle.order.specs.Room.{StateRoom}
+use Rattle.plain_steps.specs.Shapes.{stateWith}
 use Rattle.plain_steps.proofs.Joined.{byte-open, byte-closed}
-use Rattle.order.proofs.Rooms.{tally-room}
+use Rattle.order.proofs.Rooms.{state-room}
 use borrow.Author.Needs.{needs}
 use Rattle.plain_steps.proofs.layers.byte_step.Statement.{statement}
 use Rattle.plain_steps.proofs.layers.byte_step.Tie as tie
 
--- a tally in order has room
-room : (s : tie.Start) → TallyRoom (tallyOf (s .args .l) (now (s .args .frame)))
-room s = tally-room (tallyOf (s .args .l) (now (s .args .frame))) (s .pre .0)
+-- a state in order has room
+room : (s : tie.Start) → StateRoom (stateWith (s .args .l) (now (s .args .frame)))
+room s = state-room (stateWith (s .args .l) (now (s .args .frame))) (s .pre .0)
 
 open-byte-requires : tie.Need-open-byte-requires
 open-byte-requires c κs = (room (c .before .before .before) .in-groups, c .if1 .taken)

@@ -9,7 +9,7 @@ use denote.Ref.{now}
 use Rattle.base.specs.Format.{majorFrame}
 use Rattle.labelling.specs.Words.{byteVote}
 use Rattle.labelling.proofs.Feeding.{loop-start, loop-end}
-use Rattle.plain_steps.specs.Shapes.{tallyOf}
+use Rattle.plain_steps.specs.Shapes.{stateWith}
 use Rattle.reader.specs.Onward.{Moment, from, Onward}
 use Rattle.reader.proofs.Onward.{none-onward, onward-join, onward-ends, onward-more, onward-begun}
 use borrow.Author.Needs.{needs}
@@ -48,7 +48,7 @@ returns c =
     let k = advanced .before .before .before .before in
     let a = k .before .before .before .args in
     sym
-    (loop-start byteVote (tallyOf (a .l) (now (a .frame))) (now (a .area)) (now (a .piece))
+    (loop-start byteVote (stateWith (a .l) (now (a .frame))) (now (a .area)) (now (a .piece))
     ∙ onward-ends (onward-join (k .loop .inv .so-far) (advanced .advance .ensures .onward)) (c .if1 .taken))
 
 loop-less : tie.Need-loop-less Inv-loop μ-loop
@@ -75,8 +75,8 @@ returns-2 c =
     let a = c .before .before .before .before .args in
     let p = now (a .piece) in
     sym
-    (loop-start byteVote (tallyOf (a .l) (now (a .frame))) (now (a .area)) p ∙ k .inv .so-far .rest
-    ∙ loop-end byteVote (tallyOf (k .next) (k .frame)) (k .area) p (k .i) (omega arith))
+    (loop-start byteVote (stateWith (a .l) (now (a .frame))) (now (a .area)) p ∙ k .inv .so-far .rest
+    ∙ loop-end byteVote (stateWith (k .next) (k .frame)) (k .area) p (k .i) (omega arith))
 
 pub run-spec : {M : Type 1} → statement M
 run-spec =

@@ -1,7 +1,7 @@
 -- `reader::stretch::reach` meets its contract: a nominal stretch, and then the first bytes of a group. Assumes nothing.
 use denote.Ref.{now}
-use Rattle.order.proofs.Rooms.{tally-room}
-use Rattle.plain_steps.specs.Shapes.{tallyOf}
+use Rattle.order.proofs.Rooms.{state-room}
+use Rattle.plain_steps.specs.Shapes.{stateWith}
 use Rattle.reader.specs.Onward.{Begun}
 use Rattle.reader.proofs.Onward.{none-onward, onward-begun, onward-join}
 use borrow.Author.Needs.{needs}
@@ -13,7 +13,7 @@ module _ (c : tie.After-nominal-run) where
   abbrev start : tie.Start
   start = c .before .before .before .before .before
 
-  begun : Begun (now (start .args .piece)) (c .nominal-run .result .at) (tallyOf (c .nominal-run .result .layers) (c .nominal-run .last .1 .1 .1 .0))
+  begun : Begun (now (start .args .piece)) (c .nominal-run .result .at) (stateWith (c .nominal-run .result .layers) (c .nominal-run .last .1 .1 .1 .0))
   begun = onward-begun (c .nominal-run .ensures .0 (now (start .args .frame))) (start .pre)
 
 returns : tie.Need-returns
@@ -25,7 +25,7 @@ nominal-run-requires c κs = search needs
 open-group-requires : tie.Need-open-group-requires
 open-group-requires c κs =
     let b = begun (c .before) in
-    ((tally-room _ (b .order) .in-groups, b .fits), c .before .nominal-run .ensures .1)
+    ((state-room _ (b .order) .in-groups, b .fits), c .before .nominal-run .ensures .1)
 
 returns-2 : tie.Need-returns-2
 returns-2 c =
