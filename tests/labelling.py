@@ -7,7 +7,7 @@ the paper's order, and no tally goes from byte to byte:
     cut_words        words and holes   ->  the hunted ones, the closed minor frames, and the part at the end
     classify         a closed frame    ->  good, damaged or unsynced
     find_runs        closed frames     ->  the runs 0, 1, .. of good frames: major frames, broken runs, the run being built
-    counts           the bytes         ->  the fifteen counts
+    counts           the bytes         ->  the eighteen counts
     kept             the bytes         ->  what the tally holds beside the counts
     area_after       the bytes         ->  the lent area
     calls            the bytes, a cut  ->  what each call answers
@@ -34,7 +34,7 @@ Cut = namedtuple("Cut", "hunted frames part since")
 # A run of good frames 0, 1, ..: where in the list of closed frames it begins, how long it is, and major, broken or building.
 Run = namedtuple("Run", "start length kind")
 
-COUNTS = "bytes fill stray voted split open hunted good damaged unsynced placed majors broken loose building".split()
+COUNTS = "bytes fill stray voted split weak1 weak2 weak3 open hunted good damaged unsynced placed majors broken loose building".split()
 
 
 # ---- From bytes to words
@@ -45,6 +45,12 @@ def vote(copies):
         if list(copies).count(byte) >= 2:
             return byte
     return HOLE
+
+
+def weak(copies):
+    """Paper 02, request 2: the number of the copy that the two others outvote; 0 where all agree, and where none is voted."""
+    outvoted = [number for number, byte in enumerate(copies, 1) if vote(copies) not in (HOLE, byte)]
+    return outvoted[0] if outvoted else 0
 
 
 def label_bytes(data):
@@ -132,8 +138,9 @@ def whole(data):
 
 
 def counts(data):
-    """The fifteen counts by name, with the paper's three sums checked."""
-    labels, _, cut, runs = whole(data)
+    """The eighteen counts by name, with the papers' sums checked."""
+    labels, words, cut, runs = whole(data)
+    weak_copies = [weak(data[word.end - 3:word.end]) for word in words]
     kinds = [frame.kind for frame in cut.frames]
     good = kinds.count("good")
 
@@ -146,6 +153,9 @@ def counts(data):
         "stray": labels.count("stray"),
         "voted": labels.count("voted") // 4,
         "split": labels.count("split") // 4,
+        "weak1": weak_copies.count(1),
+        "weak2": weak_copies.count(2),
+        "weak3": weak_copies.count(3),
         "open": labels.count("open"),
         "hunted": len(cut.hunted),
         "good": good,
@@ -158,6 +168,7 @@ def counts(data):
         "building": in_runs("building"),
     }
     assert list(c) == COUNTS
+    assert c["weak1"] + c["weak2"] + c["weak3"] <= c["voted"]
     assert c["bytes"] == c["fill"] + c["stray"] + 4 * c["voted"] + 4 * c["split"] + c["open"]
     assert c["voted"] + c["split"] == c["hunted"] + 128 * (good + c["damaged"] + c["unsynced"]) + c["placed"]
     assert good == 128 * c["majors"] + c["broken"] + c["loose"] + c["building"]

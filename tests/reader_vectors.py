@@ -13,7 +13,7 @@ bytes, which is taken, and one with an area of 16,383 bytes, which is refused 2.
 For each piece length there are four lines or more:
   stream of N bytes in pieces of P
   paid at B area S         for each major frame: the bytes taken by then, and the area's checksum
-  bytes .. building ..     the fifteen counts
+  bytes .. building ..     the eighteen counts
   hunting .. frame S       what the tally holds beside the counts
   area S calls .. answers S refused 2: .. otherwise: ..
 `calls` counts the calls that are not refused, and `answers` is the checksum of what each says: bytes taken, complete, refusal."""
