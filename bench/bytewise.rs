@@ -40,18 +40,34 @@ pub fn byte(t: &mut Tally, b: u8, area: &mut [u8]) -> bool {
     }
 }
 
-pub fn group(t: &mut Tally, third: u8, area: &mut [u8]) -> bool {
-    let voted = if t.first == t.second || t.first == third {
-        Some(t.first)
-    } else if t.second == third {
-        Some(third)
+// The word, and the copy that is not it, counted from 1; 0 for none.
+#[inline(always)]
+pub fn vote(first: u8, second: u8, third: u8) -> (Option<u8>, usize) {
+    if first == second {
+        (Some(first), if first == third { 0 } else { 3 })
+    } else if first == third {
+        (Some(first), 2)
+    } else if second == third {
+        (Some(second), 1)
     } else {
-        None
-    };
+        (None, 0)
+    }
+}
+
+#[inline(always)]
+pub fn count_weak(counts: &mut [u64; 3], weak: usize) {
+    if weak != 0 {
+        counts[weak - 1] += 1;
+    }
+}
+
+pub fn group(t: &mut Tally, third: u8, area: &mut [u8]) -> bool {
+    let (voted, weak) = vote(t.first, t.second, third);
     match voted {
         Some(_) => t.voted += 1,
         None => t.split += 1,
     }
+    count_weak(&mut t.weak, weak);
     if t.hunting {
         hunt(t, voted);
         false

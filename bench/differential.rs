@@ -70,7 +70,7 @@ struct Seen {
     at_limit: u64,
     refused: [u64; 4],
     no_tally: u64,
-    ended_in: [u64; 14],
+    ended_in: [u64; 17],
     word72: items::Met,
 }
 
@@ -79,6 +79,9 @@ impl Seen {
         let met = [
             t.stray != 0,
             t.split != 0,
+            t.weak[0] != 0,
+            t.weak[1] != 0,
+            t.weak[2] != 0,
             t.open != 0,
             t.hunting,
             t.matched != 0,
@@ -99,8 +102,8 @@ impl Seen {
 
     // The cases and how often each was met.
     fn cases(&self) -> [(&str, Vec<(&str, u64)>); 3] {
-        const ENDED_IN: [&str; 14] = [
-            "stray", "split", "open", "hunting", "match", "good", "damaged", "unsynced", "placed", "hole", "majors", "broken", "loose",
+        const ENDED_IN: [&str; 17] = [
+            "stray", "split", "weak1", "weak2", "weak3", "open", "hunting", "match", "good", "damaged", "unsynced", "placed", "hole", "majors", "broken", "loose",
             "building",
         ];
         let calls = vec![

@@ -57,7 +57,7 @@ fn one_count(r: &mut Random, numbers: &mut [u64; NUMBERS]) {
 }
 
 fn some_counts(r: &mut Random, t: &mut Tally) {
-    match r.below(10) {
+    match r.below(12) {
         0 => fill_up_to(t, huge(r)),
         1 => t.hunting = !t.hunting,
         2 => t.erasure = !t.erasure,
@@ -81,6 +81,9 @@ fn some_counts(r: &mut Random, t: &mut Tally) {
             t.building += 128;
             t.majors = t.majors.wrapping_sub(1);
         }
+        // More weak copies than voted groups; the same by a sum that holds modulo 2^64 only.
+        9 => t.weak[r.below(3)] += t.voted + 1,
+        10 => t.weak = [1 << 63, 1 << 63, t.weak[2]],
         _ => {
             t.loose = t.loose.wrapping_sub(1);
             t.building += 1;

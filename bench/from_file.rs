@@ -68,15 +68,18 @@ fn tally_of(bytes: &[u8]) -> Tally {
     t
 }
 
-// What the program prints, as paper 01 lists it.
+// What the program prints, as papers 01 and 02 list it.
 fn listing(t: &Tally) -> String {
     let lines = [
-        ("PCD TALLY", 1),
+        ("PCD TALLY", 2),
         ("bytes", t.bytes),
         ("fill", t.fill),
         ("stray", t.stray),
         ("voted", t.voted),
         ("split", t.split),
+        ("weak1", t.weak[0]),
+        ("weak2", t.weak[1]),
+        ("weak3", t.weak[2]),
         ("open", t.open),
         ("hunted", t.hunted),
         ("good", t.good),

@@ -23,6 +23,8 @@ pub struct Groups {
     pub labels: Vec<Label>,
     pub words: Vec<Word>,
     pub ends: Vec<usize>,
+    // The weak copy of each closed group, 0 for none.
+    pub weak: Vec<usize>,
     // The last first copy and the last second copy seen, of a group closed or open.
     pub first: u8,
     pub second: u8,
@@ -38,8 +40,15 @@ pub fn vote(a: u8, b: u8, c: u8) -> Word {
     }
 }
 
+// Which copy has another value than the word that is voted (paper 02, request 2); 0 where none has, or no word is voted.
+pub fn weak(copies: [u8; 3]) -> usize {
+    let [a, b, c] = copies;
+    let outvoted = |word: u8| copies.iter().position(|&copy| copy != word);
+    vote(a, b, c).and_then(outvoted).map_or(0, |index| index + 1)
+}
+
 pub fn groups(bytes: &[u8]) -> Groups {
-    let mut g = Groups { labels: Vec::new(), words: Vec::new(), ends: Vec::new(), first: 0, second: 0 };
+    let mut g = Groups { labels: Vec::new(), words: Vec::new(), ends: Vec::new(), weak: Vec::new(), first: 0, second: 0 };
     while g.labels.len() < bytes.len() {
         let rest = &bytes[g.labels.len()..];
         match rest[0] {
@@ -64,6 +73,7 @@ fn group(g: &mut Groups, group: &[u8]) {
             let word = vote(a, b, c);
             g.words.push(word);
             g.ends.push(g.labels.len() + 4);
+            g.weak.push(weak([a, b, c]));
             if word.is_some() { Label::Voted } else { Label::Split }
         }
         _ => Label::Open,
@@ -201,6 +211,7 @@ pub fn read(bytes: &[u8]) -> Reading {
         broken: 0,
         loose: 0,
         building: 0,
+        weak: [1, 2, 3].map(|copy| g.weak.iter().filter(|&&named| named == copy).count() as u64),
         frame: frame_left(&g.words, &c),
     };
     let (majors, stored) = runs(&g, &c, &mut tally);
@@ -244,6 +255,7 @@ pub fn in_order(t: &Tally) -> bool {
     let w = u128::from;
     let counts = [
         t.bytes, t.fill, t.stray, t.voted, t.split, t.hunted, t.good, t.damaged, t.unsynced, t.majors, t.broken, t.loose,
+        t.weak[0], t.weak[1], t.weak[2],
     ];
     counts.iter().all(|&n| n <= LIMIT)
         && t.open <= 3
@@ -256,6 +268,7 @@ pub fn in_order(t: &Tally) -> bool {
         && (t.hunting || t.matched == 0)
         && (!t.hunting || (t.placed == 0 && t.building == 0))
         && (t.placed != 0 || !t.erasure)
+        && t.weak.iter().map(|&n| w(n)).sum::<u128>() <= w(t.voted)
 }
 
 // The refusal of a call of `take`, in the order of paper 01's table. No tally is for numbers that are none's: it is not in order.

@@ -24,7 +24,7 @@ use tally::{Tally, AREA};
 
 const ROUNDS: usize = 5;
 const MIB: usize = 1 << 20;
-const STREAMS: [&str; 5] = ["five FILL", "no FILL", "five, bad", "random", "as timed"];
+const STREAMS: [&str; 6] = ["five FILL", "no FILL", "five, bad", "one weak", "random", "as timed"];
 
 type Take = fn(&mut Tally, &[u8], &mut [u8]) -> (usize, bool);
 
@@ -68,6 +68,14 @@ fn stream_of(name: &str, n: usize) -> Vec<u8> {
         "five FILL" => reel(n, || 5),
         "no FILL" => reel(n, || 0),
         "as timed" => reel(n, timed()),
+        // Every group has one copy that the two others outvote.
+        "one weak" => {
+            let mut bytes = reel(n, || 5);
+            for cell in bytes.chunks_exact_mut(9) {
+                cell[1 + r.below(3)] ^= 1 << r.below(8);
+            }
+            bytes
+        }
         "five, bad" => {
             let mut bytes = reel(n, || 5);
             for b in bytes.iter_mut() {

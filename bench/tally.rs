@@ -8,7 +8,7 @@ pub const NUMBER_PLACE: usize = 65;
 pub const AREA: usize = 16_384;
 
 // A tally crosses as so many numbers and its frame.
-pub const NUMBERS: usize = 20;
+pub const NUMBERS: usize = 23;
 
 #[derive(Clone, Copy, Debug, PartialEq, Eq)]
 pub struct Tally {
@@ -32,6 +32,8 @@ pub struct Tally {
     pub broken: u64,
     pub loose: u64,
     pub building: u64,
+    // How often each copy of a voted group was outvoted by the two others.
+    pub weak: [u64; 3],
     pub frame: [u8; FRAME],
 }
 
@@ -58,6 +60,7 @@ impl Tally {
             broken: 0,
             loose: 0,
             building: 0,
+            weak: [0; 3],
             frame: [0; FRAME],
         }
     }
@@ -85,13 +88,16 @@ impl Tally {
             self.broken,
             self.loose,
             self.building,
+            self.weak[0],
+            self.weak[1],
+            self.weak[2],
         ]
     }
 
     // The tally whose numbers these are: none where a copy is no byte or a flag is neither 0 nor 1.
     pub fn of_numbers(numbers: &[u64; NUMBERS], frame: &[u8; FRAME]) -> Option<Tally> {
         let [bytes, fill, stray, voted, split, open, first, second, ..] = *numbers;
-        let [.., hunted, good, damaged, unsynced, placed, hunting, matched, erasure, majors, broken, loose, building] = *numbers;
+        let [.., hunted, good, damaged, unsynced, placed, hunting, matched, erasure, majors, broken, loose, building, weak1, weak2, weak3] = *numbers;
         Some(Tally {
             bytes,
             fill,
@@ -113,6 +119,7 @@ impl Tally {
             broken,
             loose,
             building,
+            weak: [weak1, weak2, weak3],
             frame: *frame,
         })
     }

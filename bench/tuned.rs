@@ -1,7 +1,7 @@
 // A streaming reader in safe Rust, tuned by hand: one loop for hunting and one for placing, counts in locals and by difference, equal
 // copies first, and a quick test for a run of FILL. A group across the end of a piece goes a byte at a time.
 
-use crate::bytewise::{byte, close};
+use crate::bytewise::{byte, close, count_weak, vote};
 use crate::tally::{Tally, FILL, FRAME, FRAME_SYNC, SYNC};
 
 const GROUP: usize = 4;
@@ -34,6 +34,7 @@ struct Seen {
     bytes: usize,
     stray: u64,
     split: u64,
+    weak: [u64; 3],
     words: u64,
     first: u8,
     second: u8,
@@ -41,7 +42,7 @@ struct Seen {
 
 impl Seen {
     fn none(t: &Tally) -> Seen {
-        Seen { bytes: 0, stray: 0, split: 0, words: 0, first: t.first, second: t.second }
+        Seen { bytes: 0, stray: 0, split: 0, weak: t.weak, words: 0, first: t.first, second: t.second }
     }
 
     fn add_to(&self, t: &mut Tally) {
@@ -51,11 +52,11 @@ impl Seen {
         t.stray += self.stray;
         t.split += self.split;
         t.voted += self.words - self.split;
+        t.weak = self.weak;
         t.first = self.first;
         t.second = self.second;
     }
 
-    // Most copies are equal, and then the third decides nothing.
     #[inline(always)]
     fn vote(&mut self, group: &[u8]) -> Option<u8> {
         let (first, second, third) = (group[1], group[2], group[3]);
@@ -63,14 +64,10 @@ impl Seen {
         self.words += 1;
         self.first = first;
         self.second = second;
-        if first == second || first == third {
-            Some(first)
-        } else if second == third {
-            Some(second)
-        } else {
-            self.split += 1;
-            None
-        }
+        let (word, weak) = vote(first, second, third);
+        self.split += u64::from(word.is_none());
+        count_weak(&mut self.weak, weak);
+        word
     }
 
     // The usual spacing. Its first byte decides where there is none.

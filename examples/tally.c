@@ -12,7 +12,8 @@ static const struct {
     int place;
 } LINES[] = {
     {"bytes", PCD_BYTES}, {"fill", PCD_FILL}, {"stray", PCD_STRAY},
-    {"voted", PCD_VOTED}, {"split", PCD_SPLIT}, {"open", PCD_OPEN},
+    {"voted", PCD_VOTED}, {"split", PCD_SPLIT}, {"weak1", PCD_WEAK1},
+    {"weak2", PCD_WEAK2}, {"weak3", PCD_WEAK3}, {"open", PCD_OPEN},
     {"hunted", PCD_HUNTED}, {"good", PCD_GOOD}, {"damaged", PCD_DAMAGED},
     {"unsynced", PCD_UNSYNCED}, {"placed", PCD_PLACED}, {"majors", PCD_MAJORS},
     {"broken", PCD_BROKEN}, {"loose", PCD_LOOSE}, {"building", PCD_BUILDING},

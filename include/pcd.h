@@ -39,7 +39,7 @@ extern "C" {
 
 /* ---- Sizes */
 
-#define PCD_NUMBERS 20           /* the numbers of a tally */
+#define PCD_NUMBERS 23           /* the numbers of a tally */
 #define PCD_MINOR_FRAME 128      /* the bytes of a minor frame */
 #define PCD_MAJOR_FRAME 16384    /* the bytes of a major frame, and of the area that it is put together in */
 #define PCD_COLUMN 128           /* word 72 of each minor frame of a major frame */
@@ -71,7 +71,10 @@ enum {
     PCD_MAJORS,
     PCD_BROKEN,
     PCD_LOOSE,
-    PCD_BUILDING    /* 0 to 127 */
+    PCD_BUILDING,   /* 0 to 127 */
+    PCD_WEAK1,      /* weak1 + weak2 + weak3 is at most voted */
+    PCD_WEAK2,
+    PCD_WEAK3
 };
 
 /* Writes a fresh tally: it hunts, and is otherwise 0. */
