@@ -66,7 +66,7 @@ int main(int argc, char **argv)
     pcd_fresh(numbers, frame);
     if (read_all(file) != 0)
         return 1;
-    printf("PCD TALLY 1\n");
+    printf("PCD TALLY 2\n");
     for (size_t i = 0; i < sizeof LINES / sizeof LINES[0]; i++)
         printf("%s %" PRIu64 "\n", LINES[i].name, numbers[LINES[i].place]);
     return fflush(stdout) == 0 ? 0 : 1;

@@ -13,11 +13,11 @@ work=$(mktemp -d)
 trap 'rm -rf "$work"' EXIT
 failed=0
 
-# tally BYTES FILL STRAY VOTED SPLIT OPEN HUNTED GOOD DAMAGED UNSYNCED PLACED MAJORS BROKEN LOOSE BUILDING: the listing of these counts.
+# tally BYTES FILL STRAY VOTED SPLIT WEAK1 WEAK2 WEAK3 OPEN HUNTED GOOD DAMAGED UNSYNCED PLACED MAJORS BROKEN LOOSE BUILDING: the listing of these counts.
 tally() {
-    echo 'PCD TALLY 1'
+    echo 'PCD TALLY 2'
     local name
-    for name in bytes fill stray voted split open hunted good damaged unsynced placed majors broken loose building; do
+    for name in bytes fill stray voted split weak1 weak2 weak3 open hunted good damaged unsynced placed majors broken loose building; do
         echo "$name $1"
         shift
     done
