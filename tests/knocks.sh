@@ -77,17 +77,17 @@ from_fifo() {
 }
 
 : >"$work/nothing"
-tally 0 0 0 0 0 0 0 0 0 0 0 0 0 0 0 >"$work/zeros"
+tally 0 0 0 0 0 0 0 0 0 0 0 0 0 0 0 0 0 0 >"$work/zeros"
 # 01's bench example, 32 16 FA FA FA 16 00 01 02.
 printf '\062\026\372\372\372\026\000\001\002' >"$work/example"
-tally 9 1 0 1 1 0 2 0 0 0 0 0 0 0 0 >"$work/example_tally"
+tally 9 1 0 1 1 0 0 0 0 2 0 0 0 0 0 0 0 0 >"$work/example_tally"
 # 01's example cut within a group.
 head -c 3 "$work/example" >"$work/front"
 tail -c +4 "$work/example" >"$work/back"
 # Zero bytes are neither SYNC nor FILL, so strays.
 bytes=$((5 * 1024 * 1024 * 1024))
 truncate -s "$bytes" "$work/sparse"
-tally "$bytes" 0 "$bytes" 0 0 0 0 0 0 0 0 0 0 0 0 >"$work/strays"
+tally "$bytes" 0 "$bytes" 0 0 0 0 0 0 0 0 0 0 0 0 0 0 0 >"$work/strays"
 
 echo 'no tally: the input cannot be read'
 both 'a directory' 1 "$work/nothing" 'standard input' "<$work"
