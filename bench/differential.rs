@@ -103,8 +103,8 @@ impl Seen {
     // The cases and how often each was met.
     fn cases(&self) -> [(&str, Vec<(&str, u64)>); 3] {
         const ENDED_IN: [&str; 17] = [
-            "stray", "split", "weak1", "weak2", "weak3", "open", "hunting", "match", "good", "damaged", "unsynced", "placed", "hole", "majors", "broken", "loose",
-            "building",
+            "stray", "split", "weak1", "weak2", "weak3", "open", "hunting", "match", "good", "damaged", "unsynced", "placed", "hole", "majors",
+            "broken", "loose", "building",
         ];
         let calls = vec![
             ("paid", self.paid),
@@ -286,13 +286,16 @@ impl Trial {
         held(area == kept, "the area of a refused call", at)
     }
 
-    // The next piece, to a tally whose FILL is raised so that it ends at exactly 2^40 bytes: taken as ever.
+    // The next piece, to a tally whose FILL is raised so that it ends at exactly 2^40 bytes, and which has as many weak copies as voted groups:
+    // taken as ever.
     fn call_to_limit(&mut self, s: &State, area: &[u8], at: usize, paid: usize, seen: &mut Seen) -> Result<(), String> {
         let n = self.r.below(400).min(self.bytes.len() - at);
         let (taken, complete) = self.expected(at, n, paid);
         let mut t = tally_of(s)?;
         let more = LIMIT - n as u64 - t.bytes;
         disorder::fill_up_to(&mut t, LIMIT - n as u64);
+        let weaker = t.voted - t.weak.iter().sum::<u64>();
+        t.weak[n % 3] += weaker;
         let mut s = State::of(&t);
         let mut area = area.to_vec();
         let answer = bridge::take(&mut s, &self.bytes[at..at + n], &mut area);
@@ -302,6 +305,7 @@ impl Trial {
         let mut t = tally_of(&s)?;
         t.bytes -= more;
         t.fill -= more;
+        t.weak[n % 3] -= weaker;
         self.compare(&State::of(&t), &area, at + taken)
     }
 

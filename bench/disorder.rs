@@ -81,8 +81,8 @@ fn some_counts(r: &mut Random, t: &mut Tally) {
             t.building += 128;
             t.majors = t.majors.wrapping_sub(1);
         }
-        // More weak copies than voted groups; the same by a sum that holds modulo 2^64 only.
-        9 => t.weak[r.below(3)] += t.voted + 1,
+        // One weak copy more than voted groups; far more of them, by a sum that holds modulo 2^64 only.
+        9 => t.weak[r.below(3)] += t.voted + 1 - t.weak.iter().sum::<u64>(),
         10 => t.weak = [1 << 63, 1 << 63, t.weak[2]],
         _ => {
             t.loose = t.loose.wrapping_sub(1);

@@ -72,9 +72,9 @@ enum {
     PCD_BROKEN,
     PCD_LOOSE,
     PCD_BUILDING,   /* 0 to 127 */
-    PCD_WEAK1,      /* weak1 + weak2 + weak3 is at most voted */
-    PCD_WEAK2,
-    PCD_WEAK3
+    PCD_WEAK1,      /* voted groups whose first copy alone disagreed; weak1 + weak2 + weak3 is at most voted */
+    PCD_WEAK2,      /* whose second copy did */
+    PCD_WEAK3       /* whose third copy did */
 };
 
 /* Writes a fresh tally: it hunts, and is otherwise 0. */

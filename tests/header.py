@@ -1,5 +1,6 @@
 #!/usr/bin/env python3
-"""Sees that include/pcd.h declares exactly the entries that crates/bridge exports, with their types, and the refusal numbers of crates/base.
+"""Sees that include/pcd.h declares exactly the entries that crates/bridge exports, with their types, the refusal numbers of crates/base, and a place for
+each number of a tally.
 
 Run from the repository's root: python3 tests/header.py. The prototype of each entry is made from its signature in Rattle and compared with the
 header's, both ways. Ends with status 1 where they differ, or where no entry is found."""
@@ -9,12 +10,16 @@ import sys
 
 NUMBER = {"u8": "uint8_t", "u64": "uint64_t", "f64": "double"}
 
+# An array's length that has a name in its signature.
+CROSSING = open("crates/crossing/src/lib.rt", encoding="utf-8").read()
+LENGTHS = dict(re.findall(r"^pub const (\w+): usize = (\d+);$", CROSSING, re.M))
+
 
 def parameter(name, kind):
     """One of Rattle's parameters in C: a slice is a pointer and a count, an array behind a reference a pointer."""
     if kind in NUMBER:
         return ["%s %s" % (NUMBER[kind], name)]
-    lent = re.fullmatch(r"&(mut )?(?:(\w+)|\[(\w+)(?:; (\d+))?\])", kind)
+    lent = re.fullmatch(r"&(mut )?(?:(\w+)|\[(\w+)(?:; (\w+))?\])", kind)
     if not lent:
         sys.exit("no C type is known for %s: %s" % (name, kind))
     mutable, alone, element, length = lent.groups()
@@ -22,7 +27,7 @@ def parameter(name, kind):
     if alone:
         return ["%s *%s" % (base, name)]
     if length:
-        return ["%s %s[%s]" % (base, name, length)]
+        return ["%s %s[%s]" % (base, name, LENGTHS.get(length, length))]
     return ["%s *%s" % (base, name), "size_t %s_len" % name]
 
 
@@ -54,6 +59,12 @@ def refusals():
     return {"PCD_" + name: number for name, number in re.findall(r"^pub const (\w+): u8 = (\d+);$", text, re.M)}
 
 
+def places():
+    """The names of the places of a tally's numbers, in order."""
+    text = re.sub(r"/\*.*?\*/", " ", open("include/pcd.h", encoding="utf-8").read(), flags=re.S)
+    return re.findall(r"PCD_\w+", re.search(r"enum \{\s*(PCD_BYTES\b.*?)\}", text, re.S).group(1))
+
+
 def main():
     wanted, (prototypes, constants) = exported(), declared()
     wrong = ["%s\n  the library has %s\n  the header has  %s" % (name, wanted.get(name), prototypes.get(name))
@@ -61,6 +72,8 @@ def main():
     numbers = refusals()
     wrong += ["%s is %s in crates/base and %s in the header" % (name, number, constants.get(name))
               for name, number in numbers.items() if constants.get(name) != number]
+    if constants.get("PCD_NUMBERS") != str(len(places())):
+        wrong.append("the header names %d places for the %s numbers of a tally" % (len(places()), constants.get("PCD_NUMBERS")))
     if wrong or not numbers:
         sys.exit("include/pcd.h differs from the library:\n" + "\n".join(wrong))
     print("include/pcd.h declares the %d entries of the library and %d refusals" % (len(wanted), len(numbers)))

@@ -1,9 +1,10 @@
-// The reader's two entries. A tally crosses as its twenty numbers and its frame of 128 bytes, which the caller lends and gets back.
+// The reader's two entries. A tally crosses as its numbers and its frame of 128 bytes, which the caller lends and gets back.
 ghost use Rattle.crossing.specs.Crossing.{lent, TakeCrossed, FreshCrossed};
+use crossing::NUMBERS;
 
 // Writes a fresh tally.
 #[no_mangle]
-pub extern "C" fn pcd_fresh(numbers: &mut [u64; 20], frame: &mut [u8; 128])
+pub extern "C" fn pcd_fresh(numbers: &mut [u64; NUMBERS], frame: &mut [u8; 128])
     ensures { λ _. ⌜ FreshCrossed (now (numbers .exit)) (now (frame .exit)) ⌝ }
 {
     crossing::fresh(numbers, frame);
@@ -13,7 +14,7 @@ pub extern "C" fn pcd_fresh(numbers: &mut [u64; 20], frame: &mut [u8; 128])
 // 1 where a major frame is complete and 0 where none is.
 #[no_mangle]
 pub extern "C" fn pcd_take(
-    numbers: &mut [u64; 20],
+    numbers: &mut [u64; NUMBERS],
     frame: &mut [u8; 128],
     piece: &[u8],
     area: &mut [u8],

@@ -13,7 +13,7 @@ use denote.Floats.{passes}
 use Rattle.base.specs.Lists.{one}
 use Rattle.base.proofs.Lists.{spelled}
 use Rattle.labelling.specs.declared.Tally.{Tally}
-use Rattle.crossing.specs.Crossing.{isTally, tallyOf, numbersOf, Copies, Layout}
+use Rattle.crossing.specs.Crossing.{isTally, tallyOf, numbersOf, numberCount, Copies, Layout}
 
 -- what a list that is a tally's has shown
 pub record Passed (n : List ℕ) : Type 0 where
@@ -56,12 +56,12 @@ crosses t k =
 reads-back : (t : Tally) → tallyOf (numbersOf t) (t .frame) ≡ t
 reads-back t = rw (flag-read (t .framing .hunting), flag-read (t .framing .erasure))
 
-writes-back : (n frame : List ℕ) → length n ≡ 20 → isTally n ≡ true → (numbersOf (tallyOf n frame) ≡ n) × Copies (tallyOf n frame)
+writes-back : (n frame : List ℕ) → length n ≡ numberCount → isTally n ≡ true → (numbersOf (tallyOf n frame) ≡ n) × Copies (tallyOf n frame)
 writes-back n frame h e =
     let p = passed n e in (
-      rw (flag-written (getD n 13 0) (p .hunting-flag), flag-written (getD n 15 0) (p .erasure-flag)) (sym (spelled n 20 h)),
+      rw (flag-written (getD n 13 0) (p .hunting-flag), flag-written (getD n 15 0) (p .erasure-flag)) (sym (spelled n numberCount h)),
       record { first-byte = p .first-byte; second-byte = p .second-byte },
     )
 
 pub layout : Layout
-layout = record { twenty = λ t. refl; crosses = crosses; reads-back = reads-back; writes-back = writes-back }
+layout = record { count-is = λ t. refl; crosses = crosses; reads-back = reads-back; writes-back = writes-back }

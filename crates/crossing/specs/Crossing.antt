@@ -1,4 +1,4 @@
--- A tally as it crosses to another language: twenty numbers, and the frame beside them. Definitions only.
+-- A tally as it crosses to another language: 23 numbers, and the frame beside them. Definitions only.
 use mathlib.Core.Path.{_≡_}
 use mathlib.Core.Bool.{Bool, true, cond, not, _&&_}
 use mathlib.Core.List.{List, [], _∷_, _++_}
@@ -11,6 +11,7 @@ use Rattle.labelling.specs.declared.Framing.{Framing}
 use Rattle.labelling.specs.declared.Groups.{Groups}
 use Rattle.labelling.specs.declared.Runs.{Runs}
 use Rattle.labelling.specs.declared.Tally.{Tally}
+use Rattle.labelling.specs.declared.Weak.{Weak}
 use Rattle.labelling.specs.Words.{byteVote}
 use Rattle.labelling.specs.Machine.{fresh}
 use Rattle.labelling.specs.Calls.{Call, Answer, answer, takeRefusal}
@@ -27,8 +28,16 @@ framingNumbers f =
 abbrev pub runNumbers : Runs → List ℕ
 runNumbers r = r .majors ∷ r .broken ∷ r .loose ∷ r .building ∷ []
 
+abbrev pub weakNumbers : Weak → List ℕ
+weakNumbers w = w .first ∷ w .second ∷ w .third ∷ []
+
+-- the weak counts (02, request 2) come last, so that the places of 01's numbers stay
 abbrev pub numbersOf : Tally → List ℕ
-numbersOf t = groupNumbers (t .groups) ++ framingNumbers (t .framing) ++ runNumbers (t .runs)
+numbersOf t = groupNumbers (t .groups) ++ framingNumbers (t .framing) ++ runNumbers (t .runs) ++ weakNumbers (t .groups .weak)
+
+-- how many they are
+abbrev pub numberCount : ℕ
+numberCount = 23
 
 -- ---- numbers to a tally
 
@@ -37,6 +46,9 @@ unfoldable pub isTally : List ℕ → Bool
 isTally n = ltb (getD n 6 0) 256 && ltb (getD n 7 0) 256 && ltb (getD n 13 0) 2 && ltb (getD n 15 0) 2
 
 -- the tally that they are the numbers of
+abbrev pub weakOf : List ℕ → Weak
+weakOf n = record { first = getD n 20 0; second = getD n 21 0; third = getD n 22 0 }
+
 abbrev pub groupsOf : List ℕ → Groups
 groupsOf n = record {
   bytes = getD n 0 0;
@@ -44,6 +56,7 @@ groupsOf n = record {
   stray = getD n 2 0;
   voted = getD n 3 0;
   split = getD n 4 0;
+  weak = weakOf n;
   «open» = getD n 5 0;
   first = getD n 6 0;
   second = getD n 7 0;
@@ -75,10 +88,10 @@ pub record Copies (t : Tally) : Type 0 where
 -- The lists that are a tally's are exactly the numbers of tallies, and each is the numbers of one tally: what crosses comes back the same,
 -- both ways.
 pub record Layout : Type 0 where
-  pub twenty : (t : Tally) → length (numbersOf t) ≡ 20
+  pub count-is : (t : Tally) → length (numbersOf t) ≡ numberCount
   pub crosses : (t : Tally) → Copies t → isTally (numbersOf t) ≡ true
   pub reads-back : (t : Tally) → tallyOf (numbersOf t) (t .frame) ≡ t
-  pub writes-back : (n frame : List ℕ) → length n ≡ 20 → isTally n ≡ true → (numbersOf (tallyOf n frame) ≡ n) × Copies (tallyOf n frame)
+  pub writes-back : (n frame : List ℕ) → length n ≡ numberCount → isTally n ≡ true → (numbersOf (tallyOf n frame) ≡ n) × Copies (tallyOf n frame)
 
 -- ---- what the entries promise
 

@@ -1,4 +1,4 @@
-// A tally as it crosses to programs in other languages: twenty numbers and the frame's 128 bytes, which the caller lends. An entry reads
+// A tally as it crosses to programs in other languages: its numbers and the frame's 128 bytes, which the caller lends. An entry reads
 // them, calls the reader, and writes them back. No number is cut: numbers that are no tally's are refused as a tally not in order is.
 ghost use mathlib.Core.Path.{_≡_};
 ghost use mathlib.Core.Bool.{true};
@@ -12,9 +12,13 @@ use labelling::Framing;
 use labelling::Groups;
 use labelling::Runs;
 use labelling::Tally;
+use labelling::Weak;
+
+// How many numbers a tally crosses as.
+pub const NUMBERS: usize = 23;
 
 // Writes a fresh tally. What it promises of the numbers: they are those of a tally, and of that one alone.
-pub fn fresh(numbers: &mut [u64; 20], frame: &mut [u8; 128])
+pub fn fresh(numbers: &mut [u64; NUMBERS], frame: &mut [u8; 128])
     ensures { λ _. ⌜ FreshCrossed (now (numbers .exit)) (now (frame .exit)) ⌝ }
 {
     let t = reader::fresh();
@@ -24,7 +28,7 @@ pub fn fresh(numbers: &mut [u64; 20], frame: &mut [u8; 128])
 // Takes a piece of the stream. Returns the number of the refusal, 0 for none; a refusal writes nothing. `answer` gets the bytes taken, then
 // 1 where a major frame is complete and 0 where none is.
 pub fn take(
-    numbers: &mut [u64; 20],
+    numbers: &mut [u64; NUMBERS],
     frame: &mut [u8; 128],
     piece: &[u8],
     area: &mut [u8],
@@ -50,13 +54,13 @@ pub fn take(
 }
 
 // Whether these are the numbers of a tally: the copies are bytes, the flags 0 or 1.
-fn is_tally(n: &[u64; 20]) -> bool
+fn is_tally(n: &[u64; NUMBERS]) -> bool
     ensures { λ r. ⌜ r ≡ isTally (now (n .entry)) ⌝ }
 {
     (n[6] < 256) & (n[7] < 256) & (n[13] < 2) & (n[15] < 2)
 }
 
-fn tally_of(n: &[u64; 20], frame: &[u8; 128]) -> Tally
+fn tally_of(n: &[u64; NUMBERS], frame: &[u8; 128]) -> Tally
     requires { ⌜ isTally (now n) ≡ true ⌝ }
     ensures { λ r. ⌜ r ≡ tallyOf (now (n .entry)) (now (frame .entry)) ⌝ }
 {
@@ -72,7 +76,7 @@ fn tally_of(n: &[u64; 20], frame: &[u8; 128]) -> Tally
     }
 }
 
-fn put_tally(t: Tally, n: &mut [u64; 20], frame: &mut [u8; 128])
+fn put_tally(t: Tally, n: &mut [u64; NUMBERS], frame: &mut [u8; 128])
     ensures { λ _. ⌜ now (n .exit) ≡ numbersOf t ⌝ }
     ensures { λ _. ⌜ now (frame .exit) ≡ t .frame ⌝ }
 {
@@ -104,12 +108,15 @@ fn put_tally(t: Tally, n: &mut [u64; 20], frame: &mut [u8; 128])
         r.broken,
         r.loose,
         r.building,
+        g.weak.first,
+        g.weak.second,
+        g.weak.third,
     ];
     let bytes = t.frame;
     *frame = bytes;
 }
 
-fn groups_of(n: &[u64; 20]) -> Groups
+fn groups_of(n: &[u64; NUMBERS]) -> Groups
     requires { ⌜ (getD (now n) 6 0 < 256) × (getD (now n) 7 0 < 256) ⌝ }
     ensures { λ r. ⌜ r ≡ groupsOf (now (n .entry)) ⌝ }
 {
@@ -119,13 +126,18 @@ fn groups_of(n: &[u64; 20]) -> Groups
         stray: n[2],
         voted: n[3],
         split: n[4],
+        weak: Weak {
+            first: n[20],
+            second: n[21],
+            third: n[22],
+        },
         open: n[5],
         first: n[6] as u8,
         second: n[7] as u8,
     }
 }
 
-fn framing_of(n: &[u64; 20]) -> Framing
+fn framing_of(n: &[u64; NUMBERS]) -> Framing
     ensures { λ r. ⌜ r ≡ framingOf (now (n .entry)) ⌝ }
 {
     Framing {
@@ -140,7 +152,7 @@ fn framing_of(n: &[u64; 20]) -> Framing
     }
 }
 
-fn runs_of(n: &[u64; 20]) -> Runs
+fn runs_of(n: &[u64; NUMBERS]) -> Runs
     ensures { λ r. ⌜ r ≡ runsOf (now (n .entry)) ⌝ }
 {
     Runs {
