@@ -4,7 +4,7 @@ use mathlib.Core.Bool.{Bool, true, false, not, _&&_, _||_}
 use lib.Dec.{eqb}
 use Rattle.labelling.specs.declared.Tally.{Tally}
 use Rattle.labelling.specs.Machine.{stateOf}
-use Rattle.labelling.specs.Order.{groupsBounded, framingBounded, framingModes, runsBounded, sumsHold, stateInOrder, inOrder}
+use Rattle.labelling.specs.Order.{groupsBounded, framingBounded, framingModes, runsBounded, sumsHold, fewWeak, stateInOrder, inOrder}
 use Rattle.order.proofs.Rooms.{bounded}
 
 module _ (t : Tally) where
@@ -15,7 +15,7 @@ module _ (t : Tally) where
   unfolding inOrder stateInOrder
   out-of-bounds e = rw e
 
-  pub within-bounds : {m s : Bool} → bounded (stateOf t) ≡ true → m ≡ framingModes (t .framing) → s ≡ sumsHold (stateOf t)
-      → (m && s && (not (t .framing .hunting) || eqb (t .runs .building) 0)) ≡ inOrder t
+  pub within-bounds : {m s w : Bool} → bounded (stateOf t) ≡ true → m ≡ framingModes (t .framing) → s ≡ sumsHold (stateOf t) → w ≡ fewWeak (t .groups)
+      → (m && s && w && (not (t .framing .hunting) || eqb (t .runs .building) 0)) ≡ inOrder t
   unfolding inOrder stateInOrder
-  within-bounds e em es = rw (e, em, es)
+  within-bounds e em es ew = rw (e, em, es, ew)

@@ -11,6 +11,9 @@ pub record GroupsRoom (g : Groups) : Type 0 where
   pub stray-max : g .stray ≤ 2 ^ 40
   pub voted-max : g .voted ≤ 2 ^ 40
   pub split-max : g .split ≤ 2 ^ 40
+  pub weak1-max : g .weak .first ≤ 2 ^ 40
+  pub weak2-max : g .weak .second ≤ 2 ^ 40
+  pub weak3-max : g .weak .third ≤ 2 ^ 40
   pub open-max : g .«open» ≤ 3
 
 pub record FramingRoom (f : Framing) : Type 0 where

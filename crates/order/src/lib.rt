@@ -2,15 +2,22 @@
 // the definition.
 ghost use mathlib.Core.Path.{_≡_};
 ghost use Rattle.labelling.specs.Machine.{stateOf};
-ghost use Rattle.labelling.specs.Order.{groupsBounded, framingBounded, framingModes, runsBounded, bytesSum, wordsSum, framesSum, sumsHold, inOrder};
+ghost use Rattle.labelling.specs.Order.{weakBounded, groupsBounded, fewWeak, framingBounded, framingModes, runsBounded, bytesSum, wordsSum, framesSum, sumsHold, inOrder};
 ghost use Rattle.order.specs.Room.{GroupsRoom, FramingRoom, RunsRoom, StateRoom};
 use labelling::Framing;
 use labelling::Groups;
 use labelling::Runs;
 use labelling::Tally;
+use labelling::Weak;
 
 // No count is above 2^40.
 pub const LIMIT: u64 = 1 << 40;
+
+fn weak_bounded(w: Weak) -> bool
+    ensures { λ r. ⌜ r ≡ weakBounded w ⌝ }
+{
+    (w.first <= LIMIT) & (w.second <= LIMIT) & (w.third <= LIMIT)
+}
 
 fn groups_bounded(g: Groups) -> bool
     ensures { λ r. ⌜ r ≡ groupsBounded g ⌝ }
@@ -20,6 +27,7 @@ fn groups_bounded(g: Groups) -> bool
         & (g.stray <= LIMIT)
         & (g.voted <= LIMIT)
         & (g.split <= LIMIT)
+        & weak_bounded(g.weak)
         & (g.open <= 3)
 }
 
@@ -53,6 +61,14 @@ fn bytes_sum(g: Groups) -> bool
     g.bytes == g.fill + g.stray + 4 * g.voted + 4 * g.split + g.open
 }
 
+// No more weak copies than voted groups.
+fn few_weak(g: Groups) -> bool
+    requires { ⌜ GroupsRoom g ⌝ }
+    ensures { λ r. ⌜ r ≡ fewWeak g ⌝ }
+{
+    g.weak.first + g.weak.second + g.weak.third <= g.voted
+}
+
 fn words_sum(words: u64, f: Framing) -> bool
     requires { ⌜ FramingRoom f ⌝ }
     ensures { λ r. ⌜ r ≡ wordsSum words f ⌝ }
@@ -83,5 +99,8 @@ pub fn in_order(t: Tally) -> bool
     if !bounded {
         return false;
     }
-    framing_modes(t.framing) & sums(t) & (!t.framing.hunting | (t.runs.building == 0))
+    framing_modes(t.framing)
+        & sums(t)
+        & few_weak(t.groups)
+        & (!t.framing.hunting | (t.runs.building == 0))
 }

@@ -13,7 +13,7 @@ use Rattle.labelling.specs.declared.Framing.{Framing}
 use Rattle.labelling.specs.declared.Groups.{Groups}
 use Rattle.labelling.specs.declared.Runs.{Runs}
 use Rattle.labelling.specs.declared.Word.{Word}
-use Rattle.labelling.specs.Words.{byteVote}
+use Rattle.labelling.specs.Words.{byteVote, weakCopy}
 use Rattle.labelling.specs.MinorFrames.{isWord}
 use Rattle.labelling.specs.Machine.{closes, afterClosing, afterByte, wordGiven, byteEvent, byteStep}
 use Rattle.labelling.specs.Machine.{WordEvent, hunts, locks, fills, closes-frame, huntEvent, wordEvent, afterWord, frameAfter}
@@ -22,7 +22,8 @@ use Rattle.plain_steps.specs.declared.layers.Layers.{Layers}
 use Rattle.plain_steps.specs.declared.major.Ended.{Ended}
 use Rattle.plain_steps.specs.declared.minor.Closing.the-variants.{Nothing, Frame}
 use Rattle.plain_steps.specs.declared.minor.Framed.{Framed}
-use Rattle.plain_steps.specs.Shapes.{eventOf, PlacePromise, EndPromise, stateWith, nowOf}
+use Rattle.plain_steps.specs.declared.votes.Voted.{Voted}
+use Rattle.plain_steps.specs.Shapes.{VotePromise, eventOf, PlacePromise, EndPromise, stateWith, nowOf}
 
 -- ---- a word
 
@@ -89,7 +90,7 @@ no-word (suc zero) g b h = refl
 no-word (suc (suc zero)) g b h = refl
 no-word (suc (suc (suc n))) g b h = absurd (omega arith)
 
-third-copy : (n : ℕ) (g : Groups) (b : ℕ) → 3 ≤ n → byteEvent byteVote n g b ≡ closes (byteVote (g .first) (g .second) b)
+third-copy : (n : ℕ) (g : Groups) (b : ℕ) → 3 ≤ n → byteEvent byteVote n g b ≡ closes (byteVote (g .first) (g .second) b) (weakCopy (g .first) (g .second) b)
 third-copy n g b h = rw (ne-eqb n 0 (λ e. omega arith), ne-eqb n 1 (λ e. omega arith), ne-eqb n 2 (λ e. omega arith))
 
 module _ (l : Layers) (frame area : List ℕ) (b : ℕ) where
@@ -101,7 +102,8 @@ module _ (l : Layers) (frame area : List ℕ) (b : ℕ) where
   unfolding byteStep
   byte-open h e = rw (e, no-word opened (l .groups) b h)
 
-  pub byte-closed : {w : Word} {g : Groups} {n : Now} → 3 ≤ opened → w ≡ byteVote (l .groups .first) (l .groups .second) b → g ≡ afterClosing w (l .groups)
-      → n ≡ wordStep (some w) g (stateWith l frame) area → n ≡ byteStep byteVote (stateWith l frame) area b
+  pub byte-closed : {v : Voted} {g : Groups} {n : Now} → 3 ≤ opened → VotePromise (l .groups .first) (l .groups .second) b v
+      → g ≡ afterClosing (v .word) (v .weak) (l .groups) → n ≡ wordStep (some (v .word)) g (stateWith l frame) area
+      → n ≡ byteStep byteVote (stateWith l frame) area b
   unfolding byteStep
-  byte-closed h ew eg e = e ∙ rw (third-copy opened (l .groups) b h, eg, ew)
+  byte-closed h p eg e = e ∙ rw (third-copy opened (l .groups) b h, eg, p .word-is, p .weak-is)

@@ -1,3 +1,4 @@
+mod Voting
 mod Placed
 mod Closed
 mod Joined

@@ -8,6 +8,7 @@ use Rattle.labelling.specs.declared.FrameClass.{FrameClass}
 use Rattle.labelling.specs.declared.Framing.{Framing}
 use Rattle.labelling.specs.declared.Runs.{Runs}
 use Rattle.labelling.specs.declared.Word.{Word}
+use Rattle.labelling.specs.Words.{byteVote, weakCopy}
 use Rattle.labelling.specs.Machine.{WordEvent, fills, closes-frame, wordEvent, afterWord, filled}
 use Rattle.labelling.specs.Machine.{FrameEvent, closedEvent, afterFrame, areaAfter, isComplete, State, Now}
 use Rattle.plain_steps.specs.declared.layers.Layers.{Layers}
@@ -16,6 +17,14 @@ use Rattle.plain_steps.specs.declared.major.Ended.{Ended}
 use Rattle.plain_steps.specs.declared.minor.Closing.{Closing}
 use Rattle.plain_steps.specs.declared.minor.Closing.the-variants.{Nothing, Frame}
 use Rattle.plain_steps.specs.declared.minor.Framed.{Framed}
+use Rattle.plain_steps.specs.declared.votes.Voted.{Voted}
+
+-- ---- a vote
+
+-- the word that the copies a, b, c give, and the copy that is weak (02, request 2)
+pub record VotePromise (a b c : ℕ) (r : Voted) : Type 0 where
+  pub word-is : r .word ≡ byteVote a b c
+  pub weak-is : r .weak ≡ weakCopy a b c
 
 -- ---- a word that is placed
 

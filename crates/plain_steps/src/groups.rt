@@ -1,12 +1,14 @@
 // From bytes to words: what a byte does to the first layer.
 ghost use mathlib.Core.Path.{_≡_};
-ghost use Prim.Native.Nat.{_<_};
+ghost use Prim.Native.Nat.{_≤_, _<_, _^_};
 ghost use Rattle.labelling.specs.Words.{outside, byteVote};
-ghost use Rattle.labelling.specs.Machine.{outer, afterClosing, afterByte, byteEvent};
+ghost use Rattle.labelling.specs.Machine.{outer, weaker, afterClosing, afterByte, byteEvent};
+ghost use Rattle.base.specs.Lists.{one};
 ghost use Rattle.order.specs.Room.{GroupsRoom};
 use base::format::FILL;
 use base::format::SYNC;
 use labelling::Groups;
+use labelling::Weak;
 use labelling::Word;
 
 // A byte outside a group.
@@ -50,10 +52,31 @@ pub(crate) fn open_byte(g: Groups, b: u8) -> Groups
     next
 }
 
-// The third copy: the group closes, and has given w.
-pub(crate) fn close_group(g: Groups, w: Word) -> Groups
+// The copy n was weak once more; 0 is for none. A count is added to without a branch: which copy is weak cannot be foreseen.
+fn weaken(w: Weak, n: u8) -> Weak
+    requires { ⌜ (w .first ≤ 2 ^ 40) × (w .second ≤ 2 ^ 40) × (w .third ≤ 2 ^ 40) ⌝ }
+    ensures { λ r. ⌜ r ≡ weaker n w ⌝ }
+{
+    Weak {
+        first: w.first + counted(n == 1),
+        second: w.second + counted(n == 2),
+        third: w.third + counted(n == 3),
+    }
+}
+
+fn counted(b: bool) -> u64
+    ensures { λ r. ⌜ (r ≡ one b) × (r ≤ 1) ⌝ }
+{
+    if b {
+        return 1;
+    }
+    0
+}
+
+// The third copy: the group closes, and has given w; n is its weak copy.
+pub(crate) fn close_group(g: Groups, w: Word, n: u8) -> Groups
     requires { ⌜ GroupsRoom g ⌝ }
-    ensures { λ r. ⌜ r ≡ afterClosing w g ⌝ }
+    ensures { λ r. ⌜ r ≡ afterClosing w n g ⌝ }
 {
     let mut next = g;
     next.bytes += 1;
@@ -61,6 +84,7 @@ pub(crate) fn close_group(g: Groups, w: Word) -> Groups
     match w {
         Word::Voted(_) => {
             next.voted += 1;
+            next.weak = weaken(g.weak, n);
             next
         }
         Word::Erased => {

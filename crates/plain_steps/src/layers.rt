@@ -79,7 +79,8 @@ pub fn byte_step(l: Layers, b: u8, frame: &mut [u8; 128], area: &mut [u8]) -> St
             complete: false,
         };
     }
-    let w = votes::vote(l.groups.first, l.groups.second, b);
-    next.groups = groups::close_group(l.groups, w);
+    let v = votes::vote(l.groups.first, l.groups.second, b);
+    let w = v.word;
+    next.groups = groups::close_group(l.groups, w, v.weak);
     word_step(next, w, frame, area)
 }

@@ -10,4 +10,5 @@ mod votes;
 pub use layers::Layers;
 pub use layers::Stepped;
 pub use layers::byte_step;
+pub use votes::Voted;
 pub use votes::vote;

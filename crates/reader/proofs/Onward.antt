@@ -137,6 +137,7 @@ counted g n w f s = record {
   stray = g .stray;
   voted = g .voted + w;
   split = g .split;
+  weak = g .weak;
   «open» = g .«open»;
   first = f;
   second = s;

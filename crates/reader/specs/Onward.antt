@@ -92,6 +92,7 @@ opened g x y = record {
   stray = g .stray;
   voted = g .voted;
   split = g .split;
+  weak = g .weak;
   «open» = 3;
   first = x;
   second = y;

@@ -22,9 +22,11 @@ use labelling::Framing;
 use labelling::Groups;
 use labelling::Runs;
 use labelling::Tally;
+use labelling::Weak;
 use order::LIMIT;
 pub use order::in_order;
 use plain_steps::Layers;
+pub use plain_steps::Voted;
 pub use plain_steps::vote;
 
 // The answer of a call.
@@ -50,6 +52,11 @@ pub fn fresh() -> Tally
             stray: 0,
             voted: 0,
             split: 0,
+            weak: Weak {
+                first: 0,
+                second: 0,
+                third: 0,
+            },
             open: 0,
             first: 0,
             second: 0,

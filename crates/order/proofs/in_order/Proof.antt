@@ -38,12 +38,19 @@ sums-requires c κs =
     let tested = c .before .before in
     bounded-room (stateOf (t tested)) (bounds-are tested ∙ not-false _ (c .before .if1 .left))
 
+few-weak-requires : tie.Need-few-weak-requires
+few-weak-requires c κs =
+    let tested = c .before .before .before in
+    bounded-room (stateOf (t tested)) (bounds-are tested ∙ not-false _ (c .before .before .if1 .left)) .in-groups
+
 returns-2 : tie.Need-returns-2
 returns-2 c =
-    let summed = c .before .before in
+    let counted = c .before .before in
+    let summed = counted .before in
     let inside = summed .before .before in
     let tested = inside .before in
     within-bounds (t tested) (bounds-are tested ∙ not-false _ (inside .if1 .left)) (summed .before .framing-modes .ensures) (summed .sums .ensures)
+    (counted .few-weak .ensures)
 
 pub in-order-spec : {M : Type 1} → statement M
 in-order-spec =
@@ -55,4 +62,5 @@ in-order-spec =
     returns
     framing-modes-requires
     sums-requires
+    few-weak-requires
     returns-2)

@@ -12,6 +12,9 @@ enum-told c = search needs
 add-next-2 : tie.Need-add-next-2
 add-next-2 c = search needs
 
+weaken-requires : tie.Need-weaken-requires
+weaken-requires c κs = search needs
+
 enum-told-2 : tie.Need-enum-told-2
 enum-told-2 c = search needs
 
@@ -19,11 +22,20 @@ add-next-3 : tie.Need-add-next-3
 add-next-3 c = search needs
 
 returns : tie.Need-returns
-returns c = rw (c .before .enum-told .given .1)
+returns c = rw (c .before .before .enum-told .given .1, c .weaken .ensures)
 
 returns-2 : tie.Need-returns-2
 returns-2 c = rw (c .before .enum-told2 .given .1)
 
 pub close-group-spec : {M : Type 1} → statement M
 close-group-spec =
-    tie.close (tie.spec add-next enum-told add-next-2 enum-told-2 add-next-3 returns returns-2)
+    tie.close
+    (tie.spec
+    add-next
+    enum-told
+    add-next-2
+    weaken-requires
+    enum-told-2
+    add-next-3
+    returns
+    returns-2)
