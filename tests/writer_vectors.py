@@ -109,8 +109,8 @@ def reel_lines(lead_spacing, spacings, frames):
     yield "reel of major frames %d bytes %d checksum %d" % (majors, len(data), checksum(data))
     for piece in PIECES + (len(data),):
         yield (
-            "pieces of %d: paid %d compared %d differ 0 stray 0 split 0 damaged 0 unsynced 0 broken 0 loose 0"
-            " hunted %d building 0 placed 0 open 0 good %d majors %d bytes %d fill %d voted %d" % (
+            "pieces of %d: paid %d compared %d differ 0 stray 0 split 0 weak1 0 weak2 0 weak3 0 damaged 0 unsynced 0 broken 0"
+            " loose 0 hunted %d building 0 placed 0 open 0 good %d majors %d bytes %d fill %d voted %d" % (
                 piece, majors, AREA * majors, len(LEAD_IN), minors, majors, len(data), fill, voted))
 
 

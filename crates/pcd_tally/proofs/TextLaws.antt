@@ -77,11 +77,11 @@ lined-append {cs} {ds} p q = record {
 }
 
 -- the heading and the lines, from an empty text on
-pub whole-text : {a b r : Text} (t : Tally) → a .length ≡ 0 → length (a .bytes) ≡ 512 → Adds a (ascii "PCD TALLY 1\n") b
+pub whole-text : {a b r : Text} (t : Tally) → a .length ≡ 0 → length (a .bytes) ≡ 512 → Adds a (ascii "PCD TALLY 2\n") b
     → Lined b (groupCounts t ++ frameCounts t ++ runCounts t) r → ListingPromise t r
 whole-text {a} {b} {r} t empty room p q =
     let all = adds-append p (q .adds) in
-    let two = length-append (ascii "PCD TALLY 1\n") (q .bytes) in
+    let two = length-append (ascii "PCD TALLY 2\n") (q .bytes) in
     let within : r .length ≤ length (r .bytes) = omega (arith, all .length-is, all .room-is, two, q .fits) in
     record {
       lines-are = q .bytes;

@@ -1,4 +1,4 @@
--- The tally as text (01, "The program"). Definitions only.
+-- The tally as text (01, "The program"; 02, request 2). Definitions only.
 use mathlib.Core.Path.{_≡_}
 use mathlib.Core.List.{List, [], _∷_, _++_}
 use Prim.Native.Char.{code}
@@ -8,7 +8,9 @@ use lib.ListN.{length, take}
 use Rattle.base.specs.Lists.{sumBy}
 use Rattle.io.specs.Counts.{Counts}
 use Rattle.io.specs.Digits.{digits, Fewest}
+use Rattle.labelling.specs.declared.Groups.{Groups}
 use Rattle.labelling.specs.declared.Tally.{Tally}
+use Rattle.labelling.specs.declared.Weak.{Weak}
 use Rattle.pcd_tally.specs.declared.text.Text.{Text}
 
 -- the bytes of an ASCII text
@@ -29,16 +31,20 @@ count name value = counted (ascii name) value
 
 -- ---- what is listed, in order
 
-abbrev pub groupCounts : Tally → List Count
-groupCounts t =
-    let g = t .groups in
+abbrev pub labelCounts : Groups → List Count
+labelCounts g =
     count "bytes " (g .bytes)
     ∷ count "fill " (g .fill)
     ∷ count "stray " (g .stray)
     ∷ count "voted " (g .voted)
     ∷ count "split " (g .split)
-    ∷ count "open " (g .«open»)
     ∷ []
+
+abbrev pub weakCounts : Weak → List Count
+weakCounts w = count "weak1 " (w .first) ∷ count "weak2 " (w .second) ∷ count "weak3 " (w .third) ∷ []
+
+abbrev pub groupCounts : Tally → List Count
+groupCounts t = labelCounts (t .groups) ++ weakCounts (t .groups .weak) ++ (count "open " (t .groups .«open») ∷ [])
 
 abbrev pub frameCounts : Tally → List Count
 frameCounts t =
@@ -96,5 +102,5 @@ pub record Room (text : Text) (n : ℕ) : Type 0 where
 pub record ListingPromise (t : Tally) (r : Text) : Type 0 where
   pub lines-are : List ℕ
   pub lines : Lines (groupCounts t ++ frameCounts t ++ runCounts t) lines-are
-  pub text-is : written r ≡ ascii "PCD TALLY 1\n" ++ lines-are
+  pub text-is : written r ≡ ascii "PCD TALLY 2\n" ++ lines-are
   pub counts : Counts (r .length) (r .bytes)

@@ -41,6 +41,9 @@ fn groups(t: Tally) {
     field(b" stray ", t.groups.stray);
     field(b" voted ", t.groups.voted);
     field(b" split ", t.groups.split);
+    field(b" weak1 ", t.groups.weak.first);
+    field(b" weak2 ", t.groups.weak.second);
+    field(b" weak3 ", t.groups.weak.third);
     field(b" open ", t.groups.open);
 }
 

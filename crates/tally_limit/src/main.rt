@@ -1,12 +1,14 @@
 // The reader at its edges: the limit of 2^40 bytes, the order of the refusals, and each clause of 'in order' (paper 01, "The tally and one
-// call" and "Refusal numbers"). The file stdout was written by hand from the paper, not taken from a run.
+// call" and "Refusal numbers"; paper 02, request 2). The file stdout was written by hand from the papers, not taken from a run.
 //
 // A line says what a call answers: the refusal, the bytes taken, whether a major frame is complete, the bytes of the tally that comes back,
 // whether that is the tally that went in, and how many bytes of the area the call changed.
 mod show;
 
 use labelling::Tally;
+use labelling::Weak;
 use show::call;
+use show::grouped;
 use vectors::put;
 
 const LIMIT: u64 = 1 << 40;
@@ -36,6 +38,8 @@ const P62: u64 = 1 << 62;
 
 const P63: u64 = 1 << 63;
 
+const LARGEST: u64 = 18446744073709551615;
+
 const AREA: usize = 16384;
 
 fn main() {
@@ -50,6 +54,10 @@ fn main() {
     bytes_sum();
     words_sum();
     frames_sum();
+    weak_sum();
+    weak_sum_at_the_limit();
+    weak_limits();
+    wrapping_weak();
     open();
     placed();
     building();
@@ -57,6 +65,7 @@ fn main() {
     hunting();
     hole();
     free();
+    weak_counted();
 }
 
 fn limit() {
@@ -265,6 +274,66 @@ fn frames_sum() {
     asked(b"good 134, 128 * 1 + 1 + 4 + 2", t);
 }
 
+fn weak_sum() {
+    put(b"weak1 + weak2 + weak3 is at most voted\n");
+    let mut t = reader::fresh();
+    t.groups.bytes = 52;
+    t.groups.voted = 10;
+    t.groups.split = 3;
+    t.framing.hunted = 13;
+    asked_weak(b"voted 10, split 3, weak 2 + 3 + 5", t, weak(2, 3, 5));
+    asked_weak(b"voted 10, split 3, weak 3 + 3 + 5", t, weak(3, 3, 5));
+    asked_weak(b"voted 10, split 3, weak 2 + 4 + 5", t, weak(2, 4, 5));
+    asked_weak(b"voted 10, split 3, weak 2 + 3 + 6", t, weak(2, 3, 6));
+}
+
+fn weak_sum_at_the_limit() {
+    let mut t = reader::fresh();
+    t.groups.bytes = LIMIT;
+    t.groups.voted = P38;
+    t.framing.hunted = P38;
+    asked_weak(b"voted 2^38, weak 0 + 0 + 2^38", t, weak(0, 0, P38));
+    asked_weak(b"voted 2^38, weak 1 + 0 + 2^38", t, weak(1, 0, P38));
+}
+
+fn weak_limits() {
+    let mut t = reader::fresh();
+    t.groups.bytes = LIMIT;
+    t.groups.voted = P38;
+    t.framing.hunted = P38;
+    asked_weak(b"voted 2^38, weak1 2^40 + 1", t, weak(ONE_MORE, 0, 0));
+    asked_weak(b"voted 2^38, weak2 2^40 + 1", t, weak(0, ONE_MORE, 0));
+    asked_weak(b"voted 2^38, weak3 2^40 + 1", t, weak(0, 0, ONE_MORE));
+}
+
+// Weak counts far above the limit, two of them or one, whose sum modulo 2^64 is 0.
+fn wrapping_weak() {
+    let t = reader::fresh();
+    asked_weak(b"no group, weak1 and weak2 2^63", t, weak(P63, P63, 0));
+    asked_weak(b"no group, weak2 and weak3 2^63", t, weak(0, P63, P63));
+    asked_weak(b"no group, weak1 and weak3 2^63", t, weak(P63, 0, P63));
+    asked_weak(b"no group, weak1 2^64 - 1, weak2 1", t, weak(LARGEST, 1, 0));
+    asked_weak(b"no group, weak2 2^64 - 1, weak3 1", t, weak(0, LARGEST, 1));
+    asked_weak(b"no group, weak3 2^64 - 1, weak1 1", t, weak(1, 0, LARGEST));
+}
+
+// Is the tally in order with these weak counts?
+fn asked_weak(name: &[u8], t: Tally, w: Weak) {
+    let mut g = t.groups;
+    g.weak = w;
+    let mut u = t;
+    u.groups = g;
+    asked(name, u);
+}
+
+fn weak(first: u64, second: u64, third: u64) -> Weak {
+    Weak {
+        first: first,
+        second: second,
+        third: third,
+    }
+}
+
 fn open() {
     put(b"open is at most 3\n");
     let mut t = reader::fresh();
@@ -368,4 +437,21 @@ fn free() {
     t.groups.second = 0xFE;
     t.frame = [0xFDu8; 128];
     asked(b"any copies, any frame", t);
+}
+
+fn weak_counted() {
+    put(b"a voted group counts the copy that disagrees, a split counts none\n");
+    let a = grouped(b"16 07 07 07", reader::fresh(), &[0x16u8, 7, 7, 7]);
+    let b = grouped(b"16 08 07 07", a, &[0x16u8, 8, 7, 7]);
+    let c = grouped(b"16 07 08 07", b, &[0x16u8, 7, 8, 7]);
+    let d = grouped(b"16 07 07 08", c, &[0x16u8, 7, 7, 8]);
+    let e = grouped(b"16 07 08 09", d, &[0x16u8, 7, 8, 9]);
+    let f = grouped(b"16 16 07 07", e, &[0x16u8, 0x16, 7, 7]);
+    let g = grouped(b"16 07 08", f, &[0x16u8, 7, 8]);
+    let h = grouped(b"08", g, &[8u8]);
+    grouped(
+        b"16 32 33 32 16 32 32 33",
+        h,
+        &[0x16u8, 0x32, 0x33, 0x32, 0x16, 0x32, 0x32, 0x33],
+    );
 }

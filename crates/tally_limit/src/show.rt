@@ -4,6 +4,7 @@ use labelling::Framing;
 use labelling::Groups;
 use labelling::Runs;
 use labelling::Tally;
+use labelling::Weak;
 use vectors::bit;
 use vectors::field;
 use vectors::put;
@@ -32,6 +33,28 @@ pub(crate) fn call(name: &[u8], t: Tally, bytes: usize, room: usize) -> Tally
     next
 }
 
+// A call with these bytes, and the groups counted after it.
+pub(crate) fn grouped(name: &[u8], t: Tally, piece: &[u8]) -> Tally {
+    let mut area = [0xA5u8; 16384];
+    let answer = reader::take(t, piece, &mut area);
+    let next = answer.tally;
+    put(name);
+    field(b": refusal ", answer.refusal as u64);
+    field(b" taken ", answer.taken as u64);
+    field(b" voted ", next.groups.voted);
+    field(b" split ", next.groups.split);
+    weak_copies(next.groups.weak);
+    field(b" open ", next.groups.open);
+    put(b"\n");
+    next
+}
+
+fn weak_copies(w: Weak) {
+    field(b" weak1 ", w.first);
+    field(b" weak2 ", w.second);
+    field(b" weak3 ", w.third);
+}
+
 fn same(a: Tally, b: Tally) -> bool {
     if !same_groups(a.groups, b.groups) {
         return false;
@@ -53,9 +76,14 @@ fn same_groups(a: Groups, b: Groups) -> bool {
         && a.stray == b.stray
         && a.voted == b.voted
         && a.split == b.split
+        && same_weak(a.weak, b.weak)
         && a.open == b.open
         && a.first == b.first
         && a.second == b.second
+}
+
+fn same_weak(a: Weak, b: Weak) -> bool {
+    a.first == b.first && a.second == b.second && a.third == b.third
 }
 
 fn same_framing(a: Framing, b: Framing) -> bool {

@@ -5,6 +5,7 @@ use mathlib.Core.Bool.{true, false}
 use mathlib.Core.List.{List, [], _∷_, _++_, map, append-assoc, append-nil}
 use Prim.Native.Nat.{ℕ, zero, suc, _+_, _^_, _≤_}
 use native.Mathlib.Omega.{arith}
+use lib.Dec.{eqb}
 use lib.ListN.{length, getD, replicate, length-map, List·getD-map}
 use borrow.Author.Tests.{eq-eqb}
 use Rattle.base.specs.Lists.{concatMap, sumBy}
@@ -15,7 +16,7 @@ use Rattle.labelling.specs.declared.Tally.{Tally}
 use Rattle.labelling.specs.declared.Word.{Word}
 use Rattle.labelling.specs.declared.Word.the-variants.{Voted, Erased}
 use Rattle.labelling.specs.Words.{SYNC, FILL, outside, Vote, byteVote, Label, as-fill, as-stray, as-voted, as-split, as-open, sameLabel, words}
-use Rattle.labelling.specs.Words.{labels, labelled}
+use Rattle.labelling.specs.Words.{labels, labelled, weakCopy, weakly}
 use Rattle.labelling.specs.MinorFrames.{synced, anyErased, frameClass, sameClass, placing, hunted, frame, pieces, frameOf, frames, inHunted, inPart}
 use Rattle.labelling.specs.MinorFrames.{classed}
 use Rattle.labelling.specs.MajorFrames.{value, values, isGood, number, Run, major, runs, inBroken, inLoose, inBuilding}
@@ -126,25 +127,39 @@ only-majors g none [] = refl
 only-majors g none (p ∷ ps) =
     omega (arith, sumBy-append g (ifAny major p) (concatMap (ifAny major) ps), sumBy-ifAny g major p (none []), none p, only-majors g none ps)
 
+-- equal copies name none
+none-named : (b : ℕ) → weakCopy b b b ≡ 0
+unfolding weakCopy
+none-named b = rw (eq-eqb b b refl)
+
 module _ (vote : Vote) (alike : (w : ℕ) → vote w w w ≡ Voted w) where
   -- ---- bytes to words
 
-  -- the bytes xs give the words ws, and have no label but fill and voted
+  -- the bytes xs give the words ws, have no label but fill and voted, and no weak copy
   record Gives (xs : List ℕ) (ws : List Word) : Type 0 where
     words-are : words vote xs ≡ ws
     no-other : (k : Label) → sameLabel k as-fill ≡ false → sameLabel k as-voted ≡ false → labelled vote k xs ≡ 0
+    none-weak : (n : ℕ) → eqb 0 n ≡ false → weakly vote n xs ≡ 0
 
   gives-fill : {xs : List ℕ} {ws : List Word} (n : ℕ) → Gives xs ws → Gives (replicate n FILL ++ xs) ws
-  unfolding outside words labels labelled
+  unfolding outside words labels labelled weakly
   gives-fill zero r = r
   gives-fill (suc n) r = one-more (gives-fill n r)
     where
       one-more : {xs : List ℕ} {ws : List Word} → Gives xs ws → Gives (FILL ∷ xs) ws
-      one-more r = record { words-are = r .words-are; no-other = λ k e v. rw e (omega (arith, r .no-other k e v)) }
+      one-more r = record {
+        words-are = r .words-are;
+        no-other = λ k e v. rw e (omega (arith, r .no-other k e v));
+        none-weak = λ n e. rw e (omega (arith, r .none-weak n e));
+      }
 
   gives-copies : {xs : List ℕ} {ws : List Word} (b : ℕ) → Gives xs ws → Gives (SYNC ∷ b ∷ b ∷ b ∷ xs) (Voted b ∷ ws)
-  unfolding outside words labels labelled
-  gives-copies b r = record { words-are = rw (alike b, r .words-are); no-other = λ k e v. rw (alike b, v) (omega (arith, r .no-other k e v)) }
+  unfolding outside words labels labelled weakly
+  gives-copies b r = record {
+    words-are = rw (alike b, r .words-are);
+    no-other = λ k e v. rw (alike b, v) (omega (arith, r .no-other k e v));
+    none-weak = λ n e. rw (alike b, none-named b, e) (omega (arith, r .none-weak n e));
+  }
 
   gives-stream : {xs : List ℕ} {ws : List Word} (f : ℕ) (bytes : List ℕ) → Gives xs ws → Gives (stream f bytes ++ xs) (map Voted bytes ++ ws)
   unfolding stream
@@ -156,8 +171,8 @@ module _ (vote : Vote) (alike : (w : ℕ) → vote w w w ≡ Voted w) where
   gives-minors (m ∷ ms) r = simp append-assoc (gives-stream (m .spacing) (m .bytes) (gives-minors ms r))
 
   gives-majors : (mss : List (List Minor)) → Gives (concatMap (concatMap written) mss) (allWords mss)
-  unfolding words labels labelled
-  gives-majors [] = record { words-are = refl; no-other = λ k e v. refl }
+  unfolding words labels labelled weakly
+  gives-majors [] = record { words-are = refl; no-other = λ k e v. refl; none-weak = λ n e. refl }
   gives-majors (ms ∷ mss) = gives-minors ms (gives-majors mss)
 
   -- ---- the reel
@@ -195,6 +210,9 @@ module _ (vote : Vote) (alike : (w : ℕ) → vote w w w ≡ Voted w) where
         majors-is = count .majors-is ∙ rw majors-are (length-map mss asMajor);
         no-stray = count .stray-is ∙ gives-reel .no-other as-stray refl refl;
         no-split = omega (arith, count .split-is, gives-reel .no-other as-split refl refl);
+        no-weak1 = count .weak1-is ∙ gives-reel .none-weak 1 refl;
+        no-weak2 = count .weak2-is ∙ gives-reel .none-weak 2 refl;
+        no-weak3 = count .weak3-is ∙ gives-reel .none-weak 3 refl;
         none-open = count .open-is ∙ gives-reel .no-other as-open refl refl;
         hunted-is = count .hunted-is ∙ rw pieces-are (omega (arith, framed .none-hunted));
         no-damaged = count .damaged-is ∙ rw frames-are (framed .all-good Damaged refl);

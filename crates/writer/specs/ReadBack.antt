@@ -1,4 +1,4 @@
--- What the writer makes is read back (01, "The writer"): a lead-in, then whole major frames, each minor frame at a spacing of its own.
+-- What the writer makes is read back (01, "The writer"; 02, request 2): a lead-in, then whole major frames, each minor frame at a spacing of its own.
 -- Definitions only.
 use mathlib.Core.Path.{_≡_}
 use mathlib.Core.Bool.{true}
@@ -51,6 +51,9 @@ module _ (vote : Vote) where
     pub majors-is : t .runs .majors ≡ length mss
     pub no-stray : t .groups .stray ≡ 0
     pub no-split : t .groups .split ≡ 0
+    pub no-weak1 : t .groups .weak .first ≡ 0
+    pub no-weak2 : t .groups .weak .second ≡ 0
+    pub no-weak3 : t .groups .weak .third ≡ 0
     pub none-open : t .groups .«open» ≡ 0
     pub hunted-is : t .framing .hunted ≡ 3
     pub no-damaged : t .framing .damaged ≡ 0

@@ -80,6 +80,9 @@ pub(crate) fn reading(piece: usize, r: Reading) {
 fn faults(t: Tally) {
     field(b" stray ", t.groups.stray);
     field(b" split ", t.groups.split);
+    field(b" weak1 ", t.groups.weak.first);
+    field(b" weak2 ", t.groups.weak.second);
+    field(b" weak3 ", t.groups.weak.third);
     field(b" damaged ", t.framing.damaged);
     field(b" unsynced ", t.framing.unsynced);
     field(b" broken ", t.runs.broken);

@@ -1,8 +1,14 @@
--- `pcd_tally::text::with_groups` meets its contract: one line after the other. Assumes nothing.
+-- `pcd_tally::text::with_groups` meets its contract: the labels' lines, the weak copies' and the open group's. Assumes nothing.
 use borrow.Author.Needs.{needs}
 use Rattle.pcd_tally.proofs.TextLaws.{lined-append}
 use Rattle.pcd_tally.proofs.text.with_groups.Statement.{statement}
 use Rattle.pcd_tally.proofs.text.with_groups.Tie as tie
+
+with-labels-requires : tie.Need-with-labels-requires
+with-labels-requires c κs = search needs
+
+with-weak-requires : tie.Need-with-weak-requires
+with-weak-requires c κs = search needs
 
 slice-aggregate-with-line : tie.Need-slice-aggregate-with-line
 slice-aggregate-with-line c = search needs
@@ -10,63 +16,18 @@ slice-aggregate-with-line c = search needs
 with-line-requires : tie.Need-with-line-requires
 with-line-requires c κs = search needs
 
-slice-aggregate-with-line-2 : tie.Need-slice-aggregate-with-line-2
-slice-aggregate-with-line-2 c = search needs
-
-with-line-requires-2 : tie.Need-with-line-requires-2
-with-line-requires-2 c κs = search needs
-
-slice-aggregate-with-line-3 : tie.Need-slice-aggregate-with-line-3
-slice-aggregate-with-line-3 c = search needs
-
-with-line-requires-3 : tie.Need-with-line-requires-3
-with-line-requires-3 c κs = search needs
-
-slice-aggregate-with-line-4 : tie.Need-slice-aggregate-with-line-4
-slice-aggregate-with-line-4 c = search needs
-
-with-line-requires-4 : tie.Need-with-line-requires-4
-with-line-requires-4 c κs = search needs
-
-slice-aggregate-with-line-5 : tie.Need-slice-aggregate-with-line-5
-slice-aggregate-with-line-5 c = search needs
-
-with-line-requires-5 : tie.Need-with-line-requires-5
-with-line-requires-5 c κs = search needs
-
-slice-aggregate-with-line-6 : tie.Need-slice-aggregate-with-line-6
-slice-aggregate-with-line-6 c = search needs
-
-with-line-requires-6 : tie.Need-with-line-requires-6
-with-line-requires-6 c κs = search needs
-
 returns : tie.Need-returns
 returns c =
-    let fifth = c .before .before in
-    let fourth = fifth .before .before in
-    let third = fourth .before .before in
-    let second = third .before .before in
-    let first = second .before .before in
-    let to-second = lined-append (first .with-line .ensures) (second .with-line2 .ensures) in
-    let to-third = lined-append to-second (third .with-line3 .ensures) in
-    let to-fourth = lined-append to-third (fourth .with-line4 .ensures) in
-    let to-fifth = lined-append to-fourth (fifth .with-line5 .ensures) in
-    lined-append to-fifth (c .with-line6 .ensures)
+    let weak = c .before .before in
+    let labels = weak .before in
+    lined-append (lined-append (labels .with-labels .ensures) (weak .with-weak .ensures)) (c .with-line .ensures)
 
 pub with-groups-spec : {M : Type 1} → statement M
 with-groups-spec =
     tie.close
     (tie.spec
+    with-labels-requires
+    with-weak-requires
     slice-aggregate-with-line
     with-line-requires
-    slice-aggregate-with-line-2
-    with-line-requires-2
-    slice-aggregate-with-line-3
-    with-line-requires-3
-    slice-aggregate-with-line-4
-    with-line-requires-4
-    slice-aggregate-with-line-5
-    with-line-requires-5
-    slice-aggregate-with-line-6
-    with-line-requires-6
     returns)
