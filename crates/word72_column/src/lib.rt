@@ -11,6 +11,9 @@ use word72_items::PLACES;
 // The place of the subcommutated word in a minor frame.
 const WORD: usize = 72;
 
+// How far the next minor frame's word lies.
+const STEP: usize = format::MINOR_FRAME;
+
 // A column of the kinds 1 to 3 bears its identifier at places 96 to 103 (DFCB table 14), one of kind 0 a time code at places 96 to 102
 // (DFCB table 12).
 const MARK: usize = 96;
@@ -57,14 +60,16 @@ pub fn kind(column: &[u8]) -> ColumnKind
     ColumnKind::Refused(refusal::NO_SUCH_KIND)
 }
 
-// Word 72 of each minor frame.
+// Word 72 of each minor frame, found by steps (paper 02, request 3).
 fn put_words(area: &[u8], column: &mut [u8])
     requires { ⌜ (length (now area) ≡ 16384) × (length (now column) ≡ 128) ⌝ }
     ensures { λ _. ⌜ now (column .exit) ≡ gathered (now (area .entry)) ⌝ }
 {
+    let mut at = WORD;
     let mut frame = 0;
     while frame < PLACES {
-        column[frame] = area[format::MINOR_FRAME * frame + WORD];
+        column[frame] = area[at];
+        at += STEP;
         frame += 1;
     }
 }
