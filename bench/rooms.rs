@@ -14,6 +14,7 @@ mod tally;
 use std::time::Instant;
 
 use stream::Random;
+use tally::{AREA, FRAME};
 
 const ROUNDS: usize = 150;
 
@@ -24,6 +25,59 @@ fn main() {
     println!("{:<18} | {:>7} {:>7} {:>15} | {:>7} {:>15}", "lists", "proved", "rule", "partition_point", "rule", "partition_point");
     print_lookup("1 (0.8 MB)", 1);
     print_lookup("64 (51 MB)", 64);
+    println!();
+    println!("gathering word 72: ns a major frame, best of {ROUNDS} rounds over so many areas; then the proved one's speed as a ratio to each");
+    println!();
+    println!("{:<18} | {:>7} {:>9} {:>9} | {:>9} {:>9}", "areas", "proved", "by steps", "by places", "by steps", "by places");
+    print_gathering("16 (0.3 MB)", 16);
+    print_gathering("4096 (67 MB)", 4096);
+}
+
+// Place 72 of each of the 128 minor frames, by steps of 128, and by the place of each.
+const WORD: usize = 72;
+const GATHERERS: [fn(&[u8], &mut [u8]); 3] = [
+    |area, column| assert_eq!(bridge::gather(area, column), 0),
+    gather_by_steps,
+    gather_by_places,
+];
+
+#[inline(never)]
+fn gather_by_steps(area: &[u8], column: &mut [u8]) {
+    let mut at = WORD;
+    for word in column.iter_mut() {
+        *word = area[at];
+        at += FRAME;
+    }
+}
+
+#[inline(never)]
+fn gather_by_places(area: &[u8], column: &mut [u8]) {
+    for (frame, word) in column.iter_mut().enumerate() {
+        *word = area[FRAME * frame + WORD];
+    }
+}
+
+fn print_gathering(name: &str, areas: usize) {
+    let mut bytes = vec![0; areas * AREA];
+    Random(2).fill(&mut bytes);
+    let mut best = [f64::INFINITY; GATHERERS.len()];
+    let mut columns = vec![vec![0; areas * FRAME]; GATHERERS.len()];
+    // As many calls a round for few areas as for many.
+    let turns = (4096 / areas).max(1);
+    for _ in 0..ROUNDS {
+        for (i, gather) in GATHERERS.iter().enumerate() {
+            let started = Instant::now();
+            for _ in 0..turns {
+                for (area, column) in bytes.chunks_exact(AREA).zip(columns[i].chunks_exact_mut(FRAME)) {
+                    gather(area, column);
+                }
+            }
+            best[i] = best[i].min(started.elapsed().as_secs_f64() * 1e9 / (turns * areas) as f64);
+        }
+    }
+    assert!(columns.iter().all(|column| *column == columns[0]), "the columns differ");
+    let [proved, steps, places] = best;
+    println!("{name:<18} | {proved:>7.1} {steps:>9.1} {places:>9.1} | {:>9.2} {:>9.2}", steps / proved, places / proved);
 }
 
 // Calls in a round. In a round each contender has another share of the wanted instants, so that none finds in the cache what the one before it read.
