@@ -69,16 +69,16 @@ fn read_all() -> State
     let mut state = begun();
     loop {
         state = turn(state, &mut *buffer, &mut *area);
-        if !goes_on(state) {
+        let input = state.input;
+        if !goes_on(input) {
             return state;
         }
     }
 }
 
-fn goes_on(s: State) -> bool
-    ensures { λ r. ⌜ r ≡ isMore (s .input) ⌝ }
+fn goes_on(input: Input) -> bool
+    ensures { λ r. ⌜ r ≡ isMore input ⌝ }
 {
-    let input = s.input;
     match input {
         Input::More => true,
         Input::Ended => false,
