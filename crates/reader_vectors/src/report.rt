@@ -1,5 +1,6 @@
 // What is written of a stream.
 use crate::Reading;
+use base::wide;
 use labelling::Tally;
 use vectors::bit;
 use vectors::checksum;
@@ -68,8 +69,8 @@ fn kept(t: Tally) {
     field(b"hunting ", bit(t.framing.hunting));
     field(b" match ", t.framing.matched);
     field(b" hole ", bit(t.framing.erasure));
-    field(b" copies ", t.groups.first as u64);
-    field(b" ", t.groups.second as u64);
+    field(b" copies ", wide(t.groups.first));
+    field(b" ", wide(t.groups.second));
     field(b" frame ", frame_checksum(t));
     put(b"\n");
 }
