@@ -1,36 +1,26 @@
--- The five ways in which three copies agree or not: from the tests that led to a return of `vote` to what it promises. Assumes nothing.
-use mathlib.Core.Path.{_≡_}
-use Prim.Native.Nat.{ℕ}
-use borrow.Author.Tests.{eq-eqb, ne-eqb}
-use Rattle.labelling.specs.declared.Word.the-variants as word
-use Rattle.labelling.specs.Words.{byteVote, weakCopy}
-use Rattle.plain_steps.specs.declared.votes.Voted.{Voted}
-use Rattle.plain_steps.specs.Shapes.{VotePromise}
+-- A vote by tests that are joined without branches: the eight ways of three tests are gone through once. Assumes nothing.
+use mathlib.Core.Path.{_≡_, refl, sym}
+use mathlib.Core.Bool.{Bool, true, false, cond, not, _&&_, _||_, true≢false}
+use Prim.Native.Nat.{ℕ, _+_, _*_}
+use Rattle.base.specs.Lists.{one}
+use Rattle.labelling.specs.declared.Word.the-variants.{Voted, Erased}
+use Rattle.plain_steps.specs.Shapes.{weakFrom}
 
-module _ {a b c : ℕ} {r : Voted} where
-  pub all-agree : a ≡ b → a ≡ c → r .word ≡ word.Voted a → r .weak ≡ 0 → VotePromise a b c r
-  unfolding byteVote weakCopy
-  all-agree p q w k = record { word-is = rw (w, eq-eqb a b p); weak-is = rw (k, eq-eqb a b p, eq-eqb a c q) }
+-- the number of the weak copy, added up
+pub numbered : (ab ac bc : Bool) → 3 * one (ab && not ac) + 2 * one (not ab && ac) + one (not ab && not ac && bc) ≡ weakFrom ab ac bc
+numbered true true bc = refl
+numbered true false bc = refl
+numbered false true bc = refl
+numbered false false true = refl
+numbered false false false = refl
 
-  pub third-weak : a ≡ b → (a ≡ c → ⊥) → r .word ≡ word.Voted a → r .weak ≡ 3 → VotePromise a b c r
-  unfolding byteVote weakCopy
-  third-weak p q w k = record { word-is = rw (w, eq-eqb a b p); weak-is = rw (k, eq-eqb a b p, ne-eqb a c q) }
+-- p tells that the first copy is the word, q that the second is
+pub voted-word : (a b : ℕ) (p q : Bool) → (p || q) ≡ true → Voted (cond p a b) ≡ cond p (Voted a) (cond q (Voted b) Erased)
+voted-word a b true q h = refl
+voted-word a b false true h = refl
+voted-word a b false false h = absurd (true≢false (sym h))
 
-  pub second-weak : (a ≡ b → ⊥) → a ≡ c → r .word ≡ word.Voted a → r .weak ≡ 2 → VotePromise a b c r
-  unfolding byteVote weakCopy
-  second-weak p q w k = record { word-is = rw (w, ne-eqb a b p, eq-eqb a c q); weak-is = rw (k, ne-eqb a b p, eq-eqb a c q) }
-
-  module _ (p : a ≡ b → ⊥) (q : a ≡ c → ⊥) where
-    pub first-weak : b ≡ c → r .word ≡ word.Voted b → r .weak ≡ 1 → VotePromise a b c r
-    unfolding byteVote weakCopy
-    first-weak s w k = record {
-      word-is = rw (w, ne-eqb a b p, ne-eqb a c q, eq-eqb b c s);
-      weak-is = rw (k, ne-eqb a b p, ne-eqb a c q, eq-eqb b c s);
-    }
-
-    pub all-differ : (b ≡ c → ⊥) → r .word ≡ word.Erased → r .weak ≡ 0 → VotePromise a b c r
-    unfolding byteVote weakCopy
-    all-differ s w k = record {
-      word-is = rw (w, ne-eqb a b p, ne-eqb a c q, ne-eqb b c s);
-      weak-is = rw (k, ne-eqb a b p, ne-eqb a c q, ne-eqb b c s);
-    }
+pub erased-word : (a b : ℕ) (p q : Bool) → (p || q) ≡ false → Erased ≡ cond p (Voted a) (cond q (Voted b) Erased)
+erased-word a b true q h = absurd (true≢false h)
+erased-word a b false true h = absurd (true≢false h)
+erased-word a b false false h = refl

@@ -1,5 +1,6 @@
 -- The structs of the steps in the terms of the labelling, and what two of the steps promise. Definitions only.
 use mathlib.Core.Path.{_≡_}
+use mathlib.Core.Bool.{Bool, cond}
 use mathlib.Core.List.{List}
 use Prim.Native.Nat.{ℕ}
 use lib.ListN.{length}
@@ -20,6 +21,10 @@ use Rattle.plain_steps.specs.declared.minor.Framed.{Framed}
 use Rattle.plain_steps.specs.declared.votes.Voted.{Voted}
 
 -- ---- a vote
+
+-- which copy is weak, from which of the copies a, b, c are equal: the case table of `weakCopy`
+abbrev pub weakFrom : Bool → Bool → Bool → ℕ
+weakFrom ab ac bc = cond ab (cond ac 0 3) (cond ac 2 (cond bc 1 0))
 
 -- the word that the copies a, b, c give, and the copy that is weak (02, request 2)
 pub record VotePromise (a b c : ℕ) (r : Voted) : Type 0 where

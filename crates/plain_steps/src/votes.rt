@@ -1,6 +1,9 @@
 // The vote on the three copies of a group, and the copy that it finds weak.
 ghost use mathlib.Core.Path.{_≡_};
-ghost use Rattle.plain_steps.specs.Shapes.{VotePromise};
+ghost use mathlib.Core.Bool.{cond};
+ghost use Prim.Native.Nat.{_≤_};
+ghost use Rattle.base.specs.Lists.{one};
+ghost use Rattle.plain_steps.specs.Shapes.{weakFrom, VotePromise};
 use labelling::Word;
 
 pub struct Voted {
@@ -9,33 +12,49 @@ pub struct Voted {
     pub weak: u8,
 }
 
-// The byte that at least two copies have, or an erasure where all three differ; and the weak copy.
+// The byte that at least two copies have, or an erasure where all three differ; and the weak copy. Which copies agree cannot be foreseen on a
+// reel with a bad head, so that only an erasure is told by a branch.
 pub fn vote(a: u8, b: u8, c: u8) -> Voted
     ensures { λ r. ⌜ VotePromise a b c r ⌝ }
 {
-    if a == b {
-        if a == c {
-            return gives(a, 0);
-        }
-        return gives(a, 3);
-    }
-    if a == c {
-        return gives(a, 2);
-    }
-    if b == c {
-        return gives(b, 1);
+    let ab = a == b;
+    let ac = a == c;
+    let bc = b == c;
+    let weak = weak_number(ab, ac, bc);
+    let value = pick(ab | ac, a, b);
+    if ab | ac | bc {
+        return Voted {
+            word: Word::Voted(value),
+            weak: weak,
+        };
     }
     Voted {
         word: Word::Erased,
-        weak: 0,
+        weak: weak,
     }
 }
 
-fn gives(value: u8, weak: u8) -> Voted
-    ensures { λ r. ⌜ (r .word ≡ Word.Voted value) × (r .weak ≡ weak) ⌝ }
+// The number of the weak copy, from which copies are equal.
+fn weak_number(ab: bool, ac: bool, bc: bool) -> u8
+    ensures { λ r. ⌜ r ≡ weakFrom ab ac bc ⌝ }
 {
-    Voted {
-        word: Word::Voted(value),
-        weak: weak,
+    3 * bit(ab & !ac) + 2 * bit(!ab & ac) + bit(!ab & !ac & bc)
+}
+
+fn bit(b: bool) -> u8
+    ensures { λ r. ⌜ (r ≡ one b) × (r ≤ 1) ⌝ }
+{
+    if b {
+        return 1;
     }
+    0
+}
+
+fn pick(first: bool, a: u8, b: u8) -> u8
+    ensures { λ r. ⌜ r ≡ cond first a b ⌝ }
+{
+    if first {
+        return a;
+    }
+    b
 }
