@@ -105,7 +105,8 @@ uint8_t pcd_write_minor_frame(uint64_t spacing, const uint8_t *frame, size_t fra
 /* Puts place 72 of each minor frame of an area of PCD_MAJOR_FRAME bytes into a column of PCD_COLUMN. Refused: 2, either length. */
 uint8_t pcd_gather(const uint8_t *area, size_t area_len, uint8_t *column, size_t column_len);
 
-/* The kind of a column recorded in a year, 0 to 3. Refused: 2; 13; 6, it has none, day 366 in a year that is not divisible by 4 among them. */
+/* The kind of a column recorded in a year, 0 to 3. Refused: 2; 13; 6, it has none. A time code of day 366 makes kind 0 only in a year that is
+ * divisible by 4. */
 uint8_t pcd_kind(uint64_t year, const uint8_t *column, size_t column_len, uint64_t *out);
 
 /* How many items a kind has. Refused: 6. */
@@ -128,7 +129,7 @@ uint8_t pcd_read(uint64_t year, const uint8_t *column, size_t column_len, uint64
 /* ---- The codecs of word 72 */
 
 /* Reads a time code of PCD_TIME bytes in a year: out gets the spacecraft, 0 to 15, and the instant, in sixteenths of a millisecond, day * 24 hours and
- * on down. Refused: 2; 13; 8, a digit or a field out of range, day 366 in a year that is not divisible by 4 among them. */
+ * on down. Refused: 2; 13; 8, a digit or a field is out of range, as day 366 is in a year that is not divisible by 4. */
 uint8_t pcd_decode_time(uint64_t year, const uint8_t *bytes, size_t bytes_len, uint64_t out[2]);
 
 /* Writes the PCD_TIME bytes of a spacecraft and an instant of a year. Refused: 2; 13; 8, a spacecraft above 15 or an instant outside days 1 to
