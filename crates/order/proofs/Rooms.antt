@@ -13,7 +13,7 @@ use Rattle.labelling.specs.declared.Tally.{Tally}
 use Rattle.labelling.specs.Machine.{State}
 use Rattle.labelling.specs.Order.{within, every, groupsBounded, framingBounded, runsBounded, operatorsBounded, stateInOrder, inOrder}
 use Rattle.labelling.proofs.Booking.{each-within}
-use Rattle.order.specs.Room.{GroupsRoom, FramingRoom, RunsRoom, StateRoom, OperatorsRoom}
+use Rattle.order.specs.Room.{GroupsRoom, FramingRoom, RunsRoom, StateRoom, OperatorsRoom, DutyRoom}
 
 groups-room : (g : Groups) → T (groupsBounded g) → GroupsRoom g
 groups-room g h = search (and-l, and-r, leb→le) depth 10
@@ -38,16 +38,16 @@ operators-room o e =
       paid5-max = each-within (o .paid) 5 w;
       paid6-max = each-within (o .paid) 6 w;
       paid7-max = each-within (o .paid) 7 w;
-      duty-max = search (and-r, leb→le) depth 4;
     }
 
--- so has every tally in order
-pub tally-room : (t : Tally) → inOrder t ≡ true → OperatorsRoom (t .operators)
+-- a payment fits where the tally is in order
+pub duty-room : (t : Tally) → inOrder t ≡ true → DutyRoom (t .operators)
 unfolding inOrder
-tally-room t e =
+duty-room t e =
+    let o = t .operators in
     let h : T (inOrder t) = passes (inOrder t) e in
-    let b : T (operatorsBounded (t .operators)) = search (and-l, and-r) depth 4 in
-    operators-room (t .operators) (is-true (operatorsBounded (t .operators)) b)
+    let w : T (every within (o .paid)) = search (and-l, and-r) depth 5 in
+    record { duty-max = search (and-l, and-r, leb→le) depth 5; paid-max = each-within (o .paid) (o .duty) w }
 
 module _ (t : State) where
   -- the tests of the bounds

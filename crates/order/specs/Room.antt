@@ -39,7 +39,7 @@ pub record StateRoom (t : State) : Type 0 where
   pub in-framing : FramingRoom (t .framing)
   pub in-runs : RunsRoom (t .runs)
 
--- the eight counts; on duty is one of the eight
+-- the eight counts, which are added up
 pub record OperatorsRoom (o : Operators) : Type 0 where
   pub eight : length (o .paid) ≡ 8
   pub paid0-max : paidTo 0 o ≤ 2 ^ 40
@@ -50,4 +50,8 @@ pub record OperatorsRoom (o : Operators) : Type 0 where
   pub paid5-max : paidTo 5 o ≤ 2 ^ 40
   pub paid6-max : paidTo 6 o ≤ 2 ^ 40
   pub paid7-max : paidTo 7 o ≤ 2 ^ 40
+
+-- the count of whoever is on duty, to which a payment is added
+pub record DutyRoom (o : Operators) : Type 0 where
   pub duty-max : o .duty ≤ 7
+  pub paid-max : paidTo (o .duty) o ≤ 2 ^ 40
