@@ -81,6 +81,22 @@ module _ (vote : Vote) where
       pub inv : WholeInv vote a₀ (stateOf t) a xs
       pub order : inOrder t ≡ true
 
+    -- what an accepted call leaves
+    accepted-reached : (c : TakeCall) (xs : List ℕ) → takeRefusal c ≡ 0 → Reached (c .tally) (c .area) xs
+        → Reached (answer vote c .tally) (answer vote c .area) (xs ++ taken vote c)
+    unfolding taken
+    accepted-reached c xs e i =
+        let r : FedRight vote a₀ xs (c .piece) (progressOf (answer vote c)) =
+        rw (accepted-answer vote c e) (feed-right vote a₀ (stateOf (c .tally)) (c .area) xs (c .piece) (i .inv)) in
+        record { inv = r .grown .inv; order = answer-ordered vote c (i .order) }
+
+    pub reads-reached : {t u : Tally} {a b : List ℕ} {ps qs : List (List ℕ)} {cs : List Call} (xs : List ℕ) → Reads vote t a ps cs u b qs → Reached t a xs
+        → Reached u b (xs ++ joined vote cs)
+    unfolding joined
+    reads-reached xs no-call i = rw (append-nil xs) i
+    reads-reached xs (takes-all c e n r) i = rw append-assoc at (reads-reached (xs ++ taken vote c) r (accepted-reached c xs e i))
+    reads-reached xs (stops c e n r) i = rw append-assoc at (reads-reached (xs ++ taken vote c) r (accepted-reached c xs e i))
+
     -- a call for the piece p is accepted where the bytes fit
     module _ (t : Tally) (a xs p : List ℕ) (i : Reached t a xs) (fits : length xs + length p ≤ 2 ^ 40) where
       abbrev call : TakeCall
@@ -94,10 +110,8 @@ module _ (vote : Vote) where
       call-extent = accepted-extent vote call call-accepted
 
       call-reached : Reached (answer vote call .tally) (answer vote call .area) (xs ++ take (answer vote call .taken) p)
-      call-reached =
-          let r : FedRight vote a₀ xs p (progressOf (answer vote call)) =
-          rw (accepted-answer vote call call-accepted) (feed-right vote a₀ (stateOf t) a xs p (i .inv)) in
-          record { inv = r .grown .inv; order = answer-ordered vote call (i .order) }
+      unfolding taken
+      call-reached = accepted-reached call xs call-accepted i
 
       call-bytes : length (xs ++ take (answer vote call .taken) p) ≡ length xs + answer vote call .taken
       call-bytes = omega (arith, length-append xs (take (answer vote call .taken) p), length-take-le (answer vote call .taken) p (call-extent .within))
