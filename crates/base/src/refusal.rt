@@ -38,3 +38,5 @@ pub const LIST_TOO_LONG: u8 = 12;
 
 // A year is outside 1999 to 2099.
 pub const YEAR_OUTSIDE_SPAN: u8 = 13;
+// The operator's number is above 7.
+pub const NO_SUCH_OPERATOR: u8 = 14;

@@ -1,5 +1,6 @@
 // Reads an unpacked PCD stream in pieces: voted words, minor frames, major frames, and a tally of every byte (paper 01, "From bytes to
-// words" to "The tally and one call"). The claim about every list of calls is the contract of `fresh`.
+// words" to "The tally and one call"; paper 02, request 5). The claim about every list of calls is the contract of `fresh`.
+mod duty;
 mod run;
 mod stretch;
 
@@ -18,8 +19,11 @@ use base::format::MAJOR_FRAME;
 use base::refusal::NOT_IN_ORDER;
 use base::refusal::TOO_MANY_BYTES;
 use base::refusal::WRONG_LENGTH;
+pub use duty::DutyChanged;
+pub use duty::change_duty;
 use labelling::Framing;
 use labelling::Groups;
+use labelling::Operators;
 use labelling::Runs;
 use labelling::Tally;
 use labelling::Weak;
@@ -40,8 +44,8 @@ pub struct Taken {
     pub tally: Tally,
 }
 
-// A tally of no bytes. What it promises is demand 3: over every list of calls of `take` that begins with it, each major frame of the
-// bytes is paid exactly once, and each count is that of the labelling of the bytes.
+// A tally of no bytes, with operator 0 on duty. What it promises is demand 3: over every list of calls of `take` and `change_duty` that begins
+// with it, each major frame of the bytes is paid exactly once, to whoever was on duty, and each count is that of the labelling of the bytes.
 pub fn fresh() -> Tally
     ensures { λ r. ⌜ FreshPromise byteVote r ⌝ }
 {
@@ -77,6 +81,10 @@ pub fn fresh() -> Tally
             loose: 0,
             building: 0,
         },
+        operators: Operators {
+            paid: [0u64; 8],
+            duty: 0,
+        },
         frame: [0u8; 128],
     }
 }
@@ -109,7 +117,7 @@ fn refused(t: Tally, number: u8) -> Taken
     }
 }
 
-// The tally is taken apart once a call.
+// The tally is taken apart once a call, and a payment is booked once.
 fn accepted(t: Tally, piece: &[u8], area: &mut [u8]) -> Taken
     requires { ⌜ (inOrder t ≡ true) × (length (now area) ≡ majorFrame) × (t .groups .bytes + length (now piece) ≤ 2 ^ 40) ⌝ }
     ensures { λ r. ⌜ TakePromise (callOf t (now (piece .entry)) (now (area .entry))) r (now (area .exit)) ⌝ }
@@ -125,7 +133,8 @@ fn accepted(t: Tally, piece: &[u8], area: &mut [u8]) -> Taken
     };
     let r = run::run(layers, piece, &mut frame, area);
     let left = r.layers;
-    let tally = together(left, frame);
+    let operators = duty::booked(t.operators, r.complete);
+    let tally = together(left, operators, frame);
     Taken {
         refusal: 0,
         taken: r.at,
@@ -134,8 +143,8 @@ fn accepted(t: Tally, piece: &[u8], area: &mut [u8]) -> Taken
     }
 }
 
-fn together(l: Layers, frame: [u8; 128]) -> Tally
-    ensures { λ r. ⌜ r ≡ tallyOf (stateWith l frame) ⌝ }
+fn together(l: Layers, operators: Operators, frame: [u8; 128]) -> Tally
+    ensures { λ r. ⌜ r ≡ tallyOf operators (stateWith l frame) ⌝ }
 {
     let groups = l.groups;
     let framing = l.framing;
@@ -144,6 +153,7 @@ fn together(l: Layers, frame: [u8; 128]) -> Tally
         groups: groups,
         framing: framing,
         runs: runs,
+        operators: operators,
         frame: frame,
     }
 }

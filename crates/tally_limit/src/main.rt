@@ -1,8 +1,10 @@
 // The reader at its edges: the limit of 2^40 bytes, the order of the refusals, and each clause of 'in order' (paper 01, "The tally and one
-// call" and "Refusal numbers"; paper 02, request 2). The file stdout was written by hand from the papers, not taken from a run.
+// call" and "Refusal numbers"; paper 02, requests 2 and 5). The file stdout was written by hand from the papers, not taken from a run.
 //
 // A line says what a call answers: the refusal, the bytes taken, whether a major frame is complete, the bytes of the tally that comes back,
-// whether that is the tally that went in, and how many bytes of the area the call changed.
+// whether that is the tally that went in, and how many bytes of the area the call changed. Of a change of duty it says the refusal, who is on duty
+// then, whether that is the tally that went in, and whether it is but for who is on duty.
+mod operators;
 mod show;
 
 use labelling::Tally;
@@ -11,7 +13,7 @@ use show::call;
 use show::grouped;
 use vectors::put;
 
-const LIMIT: u64 = 1 << 40;
+pub(crate) const LIMIT: u64 = 1 << 40;
 
 const ONE_LESS: u64 = LIMIT - 1;
 
@@ -24,11 +26,11 @@ const ONE_MORE: u64 = LIMIT + 1;
 
 const FOUR_MORE: u64 = LIMIT + 4;
 
-const P24: u64 = 1 << 24;
+pub(crate) const P24: u64 = 1 << 24;
 
-const P31: u64 = 1 << 31;
+pub(crate) const P31: u64 = 1 << 31;
 
-const P38: u64 = 1 << 38;
+pub(crate) const P38: u64 = 1 << 38;
 
 const ONE_ABOVE_P38: u64 = P38 + 1;
 
@@ -36,11 +38,11 @@ const P57: u64 = 1 << 57;
 
 const P62: u64 = 1 << 62;
 
-const P63: u64 = 1 << 63;
+pub(crate) const P63: u64 = 1 << 63;
 
-const LARGEST: u64 = 18446744073709551615;
+pub(crate) const LARGEST: u64 = 18446744073709551615;
 
-const AREA: usize = 16384;
+pub(crate) const AREA: usize = 16384;
 
 fn main() {
     limit();
@@ -66,6 +68,7 @@ fn main() {
     hole();
     free();
     weak_counted();
+    operators::all();
 }
 
 fn limit() {
@@ -81,24 +84,32 @@ fn limit() {
     call(b"at the limit, no byte", full, 0, AREA);
 }
 
+// One byte short of a major frame.
+pub(crate) fn one_short(t: Tally) -> Tally {
+    let mut u = t;
+    u.groups.voted = 16386;
+    u.groups.open = 3;
+    u.groups.first = 0x77;
+    u.groups.second = 0x77;
+    u.framing.hunted = 3;
+    u.framing.hunting = false;
+    u.framing.good = 127;
+    u.framing.placed = 127;
+    u.runs.building = 127;
+    let mut f = [0u8; 128];
+    f[0] = 0xFA;
+    f[1] = 0xF3;
+    f[2] = 0x20;
+    f[65] = 127;
+    u.frame = f;
+    u
+}
+
 // One byte below the limit, and one byte short of a major frame.
 fn last_byte() {
-    let mut t = reader::fresh();
+    let mut t = one_short(reader::fresh());
     t.groups.bytes = ONE_LESS;
     t.groups.fill = LEFT_FOR_FILL;
-    t.groups.voted = 16386;
-    t.groups.open = 3;
-    t.groups.first = 0x77;
-    t.groups.second = 0x77;
-    t.framing.hunted = 3;
-    t.framing.hunting = false;
-    t.framing.good = 127;
-    t.framing.placed = 127;
-    t.runs.building = 127;
-    t.frame[0] = 0xFA;
-    t.frame[1] = 0xF3;
-    t.frame[2] = 0x20;
-    t.frame[65] = 127;
     call(
         b"a major frame that the byte after the limit would complete, 2 bytes",
         t,
@@ -142,7 +153,7 @@ fn order_in_order() {
 }
 
 // A call with no byte: is the tally in order?
-fn asked(name: &[u8], t: Tally) {
+pub(crate) fn asked(name: &[u8], t: Tally) {
     call(name, t, 0, AREA);
 }
 
@@ -174,6 +185,7 @@ fn counts_together() {
     t.framing.hunted = 0;
     t.framing.good = P31;
     t.runs.majors = P24;
+    t.operators = operators::first_paid(P24);
     asked(b"2^24 major frames", t);
     t.groups.bytes = FOUR_MORE;
     t.groups.voted = ONE_ABOVE_P38;
@@ -264,6 +276,7 @@ fn frames_sum() {
     t.framing.hunted = 3;
     t.framing.good = 134;
     t.runs.majors = 1;
+    t.operators = operators::first_paid(1);
     t.runs.broken = 1;
     t.runs.building = 2;
     t.runs.loose = 2;
