@@ -171,7 +171,7 @@ majority rule = go (eqb rule 2)
     go false = majority-bytes
 
 pub unanimous : (rule : ℕ) → Unanimous (ruleVote rule)
-unanimous rule x = majority rule .first-two x x
+unanimous rule = record { all-three = λ x. majority rule .first-two x x }
 
 -- ---- where rule 1 gives a word, such a vote gives the same
 

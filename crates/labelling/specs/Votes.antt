@@ -54,8 +54,8 @@ ruleVote rule = cond (eqb rule 2) bitVote byteVote
 -- ---- what the laws need of a vote
 
 -- three equal copies give their word
-abbrev pub Unanimous : Vote → Type 0
-Unanimous vote = (x : ℕ) → vote x x x ≡ Voted x
+pub record Unanimous (vote : Vote) : Type 0 where
+  pub all-three : (x : ℕ) → vote x x x ≡ Voted x
 
 -- two equal copies decide, whatever the third is
 pub record Majority (vote : Vote) : Type 0 where
