@@ -28,6 +28,10 @@ pub use order::in_order;
 use plain_steps::Layers;
 pub use plain_steps::Voted;
 pub use plain_steps::vote;
+pub use plain_steps::vote_bits;
+
+// The rule of the vote.
+const BY_BYTES: u64 = 1;
 
 // The answer of a call.
 pub struct Taken {
@@ -123,7 +127,7 @@ fn accepted(t: Tally, piece: &[u8], area: &mut [u8]) -> Taken
         framing: framing,
         runs: runs,
     };
-    let r = run::run(layers, piece, &mut frame, area);
+    let r = run::run(BY_BYTES, layers, piece, &mut frame, area);
     let left = r.layers;
     let tally = together(left, frame);
     Taken {

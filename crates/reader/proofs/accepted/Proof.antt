@@ -5,6 +5,7 @@ use denote.Ref.{now}
 use Rattle.labelling.proofs.CallLaws.{no-refusal}
 use Rattle.labelling.proofs.Ordered.{state-in-order}
 use Rattle.labelling.specs.Calls.{Progress, answerWith}
+use Rattle.labelling.specs.Votes.{ruleVote}
 use Rattle.reader.proofs.Answers.{accepted-promise}
 use borrow.Author.Needs.{needs}
 use Rattle.reader.proofs.accepted.Statement.{statement}
@@ -32,6 +33,7 @@ same-length : tie.Need-same-length
 same-length c = search needs
 
 returns : tie.Need-returns
+unfolding ruleVote
 returns c =
     let ran = c .before .before .before .before in
     let s = start (ran .before .before .before .before) in
