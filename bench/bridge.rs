@@ -13,6 +13,7 @@ extern "C" {
         area_len: usize,
         answer: *mut [u64; 2],
     ) -> u8;
+    fn pcd_change_duty(numbers: *mut [u64; NUMBERS], frame: *mut [u8; FRAME], operator_number: u64) -> u8;
     fn pcd_write_lead_in(spacing: u64, out: *mut u8, out_len: usize) -> u8;
     fn pcd_write_minor_frame(spacing: u64, frame: *const u8, frame_len: usize, out: *mut u8, out_len: usize) -> u8;
     fn pcd_decode_time(bytes: *const u8, bytes_len: usize, out: *mut [u64; 2]) -> u8;
@@ -73,6 +74,10 @@ pub fn take(s: &mut State, piece: &[u8], area: &mut [u8]) -> Taken {
         )
     };
     Taken { refusal, taken: answer[0], complete: answer[1] }
+}
+
+pub fn change_duty(s: &mut State, operator_number: u64) -> u8 {
+    unsafe { pcd_change_duty(&mut s.numbers, &mut s.frame, operator_number) }
 }
 
 pub fn write_lead_in(spacing: u64, out: &mut [u8]) -> u8 {

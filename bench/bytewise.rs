@@ -135,5 +135,6 @@ fn good(t: &mut Tally, area: &mut [u8]) -> bool {
     }
     t.building = 0;
     t.majors += 1;
+    t.paid[t.duty as usize] += 1;
     true
 }

@@ -21,9 +21,9 @@ use std::process::exit;
 use std::time::Instant;
 
 use bridge::State;
-use plain::LIMIT;
+use plain::{Shifts, LIMIT};
 use stream::Random;
-use tally::{Tally, AREA};
+use tally::{Tally, AREA, OPERATORS};
 
 // One stream in so many is long enough for a major frame.
 const RARE: usize = 40;
@@ -70,6 +70,11 @@ struct Seen {
     at_limit: u64,
     refused: [u64; 4],
     no_tally: u64,
+    // Changes of duty, those that were refused by number, and those between the first and the last byte of a major frame.
+    changes: u64,
+    refused_changes: [u64; 15],
+    within_a_major: u64,
+    paid_to: [u64; OPERATORS],
     ended_in: [u64; 17],
     word72: items::Met,
 }
@@ -101,7 +106,7 @@ impl Seen {
     }
 
     // The cases and how often each was met.
-    fn cases(&self) -> [(&str, Vec<(&str, u64)>); 3] {
+    fn cases(&self) -> [(&str, Vec<(&str, u64)>); 5] {
         const ENDED_IN: [&str; 17] = [
             "stray", "split", "weak1", "weak2", "weak3", "open", "hunting", "match", "good", "damaged", "unsynced", "placed", "hole", "majors",
             "broken", "loose", "building",
@@ -114,8 +119,21 @@ impl Seen {
             ("refused 2", self.refused[2]),
             ("refused 3", self.refused[3]),
         ];
+        let changes = vec![
+            ("accepted", self.changes),
+            ("within a major frame", self.within_a_major),
+            ("refused 1", self.refused_changes[1]),
+            ("refused 14", self.refused_changes[14]),
+        ];
+        let paid_to = ["0", "1", "2", "3", "4", "5", "6", "7"].into_iter().zip(self.paid_to).collect();
         let streams = ENDED_IN.iter().copied().zip(self.ended_in).collect();
-        [("calls", calls), ("streams that ended with some", streams), ("word 72", self.word72.cases())]
+        [
+            ("calls", calls),
+            ("changes of duty", changes),
+            ("major frames paid to operator", paid_to),
+            ("streams that ended with some", streams),
+            ("word 72", self.word72.cases()),
+        ]
     }
 
     // Prints how often each case was met; how many never were, where all should have been.
@@ -159,7 +177,9 @@ impl Trial {
         let bytes = stream::any_stream(&mut r, RARE);
         let mut start = vec![0; AREA];
         r.fill(&mut start);
-        let whole = plain::read(&bytes);
+        let mut shifts = Shifts::new();
+        shifts.taken(bytes.len());
+        let whole = plain::read(&bytes, &shifts);
         Trial { r, bytes, start, whole }
     }
 
@@ -176,19 +196,26 @@ impl Trial {
         items::trials(&mut self.r, &mut seen.word72)
     }
 
-    // The proved reader, in calls cut at random, with refused calls among them.
+    // The proved reader, in calls cut at random, with changes of duty and refused calls of both kinds among them.
     fn proved(&mut self, seen: &mut Seen) -> Result<(), String> {
         let mut s = bridge::fresh();
         held(s == State::of(&Tally::fresh()), "a fresh tally", 0)?;
         let mut area = self.start.clone();
+        let mut shifts = Shifts::new();
         let (mut at, mut paid) = (0, 0);
         let longest = self.longest_piece();
         loop {
             if self.r.one_in(4) {
                 self.refused_call(&s, at, seen)?;
             }
+            if self.r.one_in(8) {
+                self.refused_change(&s, at, seen)?;
+            }
+            if self.r.one_in(8) {
+                self.change_duty(&mut s, &mut shifts, seen)?;
+            }
             if self.r.one_in(12) {
-                self.call_to_limit(&s, &area, at, paid, seen)?;
+                self.call_to_limit(&s, &area, &shifts, paid, seen)?;
             }
             let n = self.r.below(longest + 1).min(self.bytes.len() - at);
             let (taken, complete) = self.expected(at, n, paid);
@@ -198,14 +225,16 @@ impl Trial {
             held(answer.taken == taken as u64, "the bytes taken", at)?;
             held(answer.complete == complete as u64, "whether a frame is complete", at)?;
             at += taken;
+            shifts.taken(taken);
             if complete {
                 held(area == self.whole.majors[paid].bytes, "the major frame paid", at)?;
+                seen.paid_to[shifts.duty as usize] += 1;
                 paid += 1;
             }
             let ended = at == self.bytes.len();
             if ended || complete || self.r.one_in(1 + self.bytes.len() / 2000) {
                 seen.compared += 1;
-                self.compare(&s, &area, at)?;
+                self.compare(&s, &area, &shifts)?;
             }
             if ended {
                 break;
@@ -235,8 +264,13 @@ impl Trial {
         }
     }
 
-    fn compare(&self, s: &State, area: &[u8], at: usize) -> Result<(), String> {
-        let reading = plain::read(&self.bytes[..at]);
+    // The tally and the area after a list of calls that took as many bytes as are stamped.
+    fn compare(&self, s: &State, area: &[u8], shifts: &Shifts) -> Result<(), String> {
+        let at = shifts.stamps.len();
+        self.left(s, area, &plain::read(&self.bytes[..at], shifts), at)
+    }
+
+    fn left(&self, s: &State, area: &[u8], reading: &plain::Reading, at: usize) -> Result<(), String> {
         let wanted = State::of(&reading.tally);
         if *s != wanted {
             return Err(format!("the tally differs after {at} bytes:\n  has   {:?}\n  wants {:?}", s.numbers, wanted.numbers));
@@ -286,47 +320,85 @@ impl Trial {
         held(area == kept, "the area of a refused call", at)
     }
 
-    // The next piece, to a tally whose FILL is raised so that it ends at exactly 2^40 bytes, and which has as many weak copies as voted groups:
-    // taken as ever.
-    fn call_to_limit(&mut self, s: &State, area: &[u8], at: usize, paid: usize, seen: &mut Seen) -> Result<(), String> {
+    // A call that puts an operator on duty, whoever is: nothing else changes.
+    fn change_duty(&mut self, s: &mut State, shifts: &mut Shifts, seen: &mut Seen) -> Result<(), String> {
+        let operator_number = self.r.below(OPERATORS) as u64;
+        let at = shifts.stamps.len();
+        let mut wanted = tally_of(s)?;
+        wanted.duty = operator_number;
+        held(bridge::change_duty(s, operator_number) == 0, "the refusal of a change of duty", at)?;
+        held(*s == State::of(&wanted), "the tally after a change of duty", at)?;
+        shifts.duty = operator_number;
+        seen.changes += 1;
+        seen.within_a_major += self.whole.majors.iter().any(|major| major.start < at && at < major.end) as u64;
+        Ok(())
+    }
+
+    // A change of duty that must be refused: the tally stays.
+    fn refused_change(&mut self, s: &State, at: usize, seen: &mut Seen) -> Result<(), String> {
+        const NAMED: [u64; 10] = [0, 1, 7, 8, 9, 15, 256, 1 << 32, 1 << 63, u64::MAX];
+        let operator_number = NAMED[self.r.below(NAMED.len())];
+        let mut before = *s;
+        match self.r.below(4) {
+            0 => disorder::no_tally(&mut self.r, &mut before),
+            1 => disorder::out_of_order(&mut self.r, &mut before),
+            _ => {}
+        }
+        let number = plain::duty_refusal(before.tally().as_ref(), operator_number);
+        if number == 0 {
+            return Ok(());
+        }
+        seen.refused_changes[number as usize] += 1;
+        let mut s = before;
+        held(bridge::change_duty(&mut s, operator_number) == number, "the number of a refused change of duty", at)?;
+        held(s == before, "the tally of a refused change of duty", at)
+    }
+
+    // The next piece, to a tally that has read more before, so that it ends at exactly 2^40 bytes: taken as ever.
+    fn call_to_limit(&mut self, s: &State, area: &[u8], shifts: &Shifts, paid: usize, seen: &mut Seen) -> Result<(), String> {
+        let at = shifts.stamps.len();
         let n = self.r.below(400).min(self.bytes.len() - at);
         let (taken, complete) = self.expected(at, n, paid);
         let mut t = tally_of(s)?;
-        let more = LIMIT - n as u64 - t.bytes;
-        disorder::fill_up_to(&mut t, LIMIT - n as u64);
-        let weaker = t.voted - t.weak.iter().sum::<u64>();
-        t.weak[n % 3] += weaker;
+        let more = disorder::More::up_to(&mut self.r, &t, LIMIT - n as u64);
+        more.add_to(&mut t);
         let mut s = State::of(&t);
         let mut area = area.to_vec();
         let answer = bridge::take(&mut s, &self.bytes[at..at + n], &mut area);
         seen.at_limit += 1;
         held(answer.refusal == 0, "the refusal of a call to the limit", at)?;
         held((answer.taken, answer.complete) == (taken as u64, complete as u64), "the answer of a call to the limit", at)?;
-        let mut t = tally_of(&s)?;
-        t.bytes -= more;
-        t.fill -= more;
-        t.weak[n % 3] -= weaker;
-        self.compare(&State::of(&t), &area, at + taken)
+        let mut shifts = shifts.clone();
+        shifts.taken(taken);
+        let mut reading = plain::read(&self.bytes[..at + taken], &shifts);
+        more.add_to(&mut reading.tally);
+        self.left(&s, &area, &reading, at + taken)
     }
 
-    // A reader in Rust, in calls cut elsewhere.
+    // A reader in Rust, in calls cut elsewhere and on other shifts.
     fn streaming(&mut self, name: &str, take: fn(&mut Tally, &[u8], &mut [u8]) -> (usize, bool)) -> Result<(), String> {
         let mut t = Tally::fresh();
         let mut area = self.start.clone();
+        let mut shifts = Shifts::new();
         let (mut at, mut paid) = (0, 0);
         let longest = self.longest_piece();
         while at < self.bytes.len() {
+            if self.r.one_in(8) {
+                t.duty = self.r.below(OPERATORS) as u64;
+                shifts.duty = t.duty;
+            }
             let n = self.r.below(longest + 1).min(self.bytes.len() - at);
             let expected = self.expected(at, n, paid);
             let answer = take(&mut t, &self.bytes[at..at + n], &mut area);
             held(answer == expected, &format!("the answer of the {name} reader"), at)?;
             at += answer.0;
+            shifts.taken(answer.0);
             if answer.1 {
                 held(area == self.whole.majors[paid].bytes, &format!("the major frame of the {name} reader"), at)?;
                 paid += 1;
             }
         }
-        self.compare(&State::of(&t), &area, at).map_err(|what| format!("{name}: {what}"))
+        self.compare(&State::of(&t), &area, &shifts).map_err(|what| format!("{name}: {what}"))
     }
 }
 

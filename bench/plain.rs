@@ -1,7 +1,7 @@
-// An independent reader over whole lists, written from paper 01 and docs/DECISIONS.md. It is meant to be read beside the paper, not to be
+// An independent reader over whole lists, written from papers 01 and 02 and docs/DECISIONS.md. It is meant to be read beside the paper, not to be
 // fast: bytes are cut into groups, words into hunted stretches and frames, closed frames into runs, and every count is a count of pieces.
 
-use crate::tally::{Tally, AREA, FILL, FRAME, FRAME_SYNC, NUMBER_PLACE, SYNC};
+use crate::tally::{Tally, AREA, FILL, FRAME, FRAME_SYNC, NUMBER_PLACE, OPERATORS, SYNC};
 
 // No count of a tally is above this.
 pub const LIMIT: u64 = 1 << 40;
@@ -153,10 +153,37 @@ fn run_length(numbers: &[Option<u8>], from: usize) -> usize {
     (0..FRAME).find(|&k| numbers.get(from + k) != Some(&Some(k as u8))).unwrap_or(FRAME)
 }
 
-// A complete major frame: its bytes, and how many bytes of the stream there are up to the copy that closes it.
+// A complete major frame: how many bytes of the stream there are before its first group and up to the copy that closes it, and its bytes.
 pub struct Major {
+    pub start: usize,
     pub end: usize,
     pub bytes: Vec<u8>,
+}
+
+// Who is on duty (paper 02, request 5), read off the list of calls: as each byte is taken, and at the end.
+#[derive(Clone)]
+pub struct Shifts {
+    pub stamps: Vec<u64>,
+    pub duty: u64,
+}
+
+impl Shifts {
+    // No call yet, and so nobody named.
+    pub fn new() -> Shifts {
+        Shifts { stamps: Vec::new(), duty: 0 }
+    }
+
+    // A call took so many bytes.
+    pub fn taken(&mut self, bytes: usize) {
+        self.stamps.resize(self.stamps.len() + bytes, self.duty);
+    }
+
+    // How many of the major frames belong to each operator: to whoever was on duty when the last byte was taken.
+    fn paid(&self, majors: &[Major]) -> [u64; OPERATORS] {
+        let mut paid = [0; OPERATORS];
+        majors.iter().for_each(|major| paid[self.stamps[major.end - 1] as usize] += 1);
+        paid
+    }
 }
 
 pub struct Reading {
@@ -184,7 +211,7 @@ fn frame_bytes(words: &[Word]) -> [u8; FRAME] {
     bytes
 }
 
-pub fn read(bytes: &[u8]) -> Reading {
+pub fn read(bytes: &[u8], shifts: &Shifts) -> Reading {
     let g = groups(bytes);
     let c = cut(&g.words);
     let labelled = |label: Label| g.labels.iter().filter(|&&l| l == label).count() as u64;
@@ -212,9 +239,12 @@ pub fn read(bytes: &[u8]) -> Reading {
         loose: 0,
         building: 0,
         weak: [1, 2, 3].map(|copy| g.weak.iter().filter(|&&named| named == copy).count() as u64),
+        paid: [0; OPERATORS],
+        duty: shifts.duty,
         frame: frame_left(&g.words, &c),
     };
     let (majors, stored) = runs(&g, &c, &mut tally);
+    tally.paid = shifts.paid(&majors);
     Reading { tally, majors, stored }
 }
 
@@ -238,7 +268,7 @@ fn runs(g: &Groups, c: &Cut, tally: &mut Tally) -> (Vec<Major>, Vec<[u8; FRAME]>
         stored.extend(members.clone().map(bytes_of));
         if n == FRAME {
             let bytes: Vec<u8> = members.flat_map(bytes_of).collect();
-            majors.push(Major { end: g.ends[c.frames[from + n - 1] + FRAME - 1], bytes });
+            majors.push(Major { start: g.ends[c.frames[from]] - 4, end: g.ends[c.frames[from + n - 1] + FRAME - 1], bytes });
         } else if from + n == numbers.len() {
             tally.building += n as u64;
         } else {
@@ -257,7 +287,8 @@ pub fn in_order(t: &Tally) -> bool {
         t.bytes, t.fill, t.stray, t.voted, t.split, t.hunted, t.good, t.damaged, t.unsynced, t.majors, t.broken, t.loose,
         t.weak[0], t.weak[1], t.weak[2],
     ];
-    counts.iter().all(|&n| n <= LIMIT)
+    let sum = |counts: &[u64]| counts.iter().map(|&n| w(n)).sum::<u128>();
+    counts.iter().chain(&t.paid).all(|&n| n <= LIMIT)
         && t.open <= 3
         && t.placed <= 127
         && t.building <= 127
@@ -268,7 +299,9 @@ pub fn in_order(t: &Tally) -> bool {
         && (t.hunting || t.matched == 0)
         && (!t.hunting || (t.placed == 0 && t.building == 0))
         && (t.placed != 0 || !t.erasure)
-        && t.weak.iter().map(|&n| w(n)).sum::<u128>() <= w(t.voted)
+        && sum(&t.weak) <= w(t.voted)
+        && sum(&t.paid) == w(t.majors)
+        && t.duty < OPERATORS as u64
 }
 
 // The refusal of a call of `take`, in the order of paper 01's table. No tally is for numbers that are none's: it is not in order.
@@ -279,6 +312,20 @@ pub fn refusal(t: Option<&Tally>, piece: usize, area: usize) -> u8 {
                 2
             } else if t.bytes + piece as u64 > LIMIT {
                 3
+            } else {
+                0
+            }
+        }
+        _ => 1,
+    }
+}
+
+// The refusal of a call that names an operator.
+pub fn duty_refusal(t: Option<&Tally>, operator_number: u64) -> u8 {
+    match t {
+        Some(t) if in_order(t) => {
+            if operator_number >= OPERATORS as u64 {
+                14
             } else {
                 0
             }

@@ -1,4 +1,4 @@
-// The tally as paper 01 lists it, and the values of the stream that every reader here needs.
+// The tally as papers 01 and 02 list it, and the values of the stream that every reader here needs.
 
 pub const SYNC: u8 = 0x16;
 pub const FILL: u8 = 0x32;
@@ -8,7 +8,10 @@ pub const NUMBER_PLACE: usize = 65;
 pub const AREA: usize = 16_384;
 
 // A tally crosses as so many numbers and its frame.
-pub const NUMBERS: usize = 23;
+pub const NUMBERS: usize = 32;
+
+// Paper 02, request 5: operators are numbered 0 to 7.
+pub const OPERATORS: usize = 8;
 
 #[derive(Clone, Copy, Debug, PartialEq, Eq)]
 pub struct Tally {
@@ -34,6 +37,9 @@ pub struct Tally {
     pub building: u64,
     // How often each copy of a voted group was outvoted by the two others.
     pub weak: [u64; 3],
+    // The major frames paid to each operator, and who is on duty.
+    pub paid: [u64; OPERATORS],
+    pub duty: u64,
     pub frame: [u8; FRAME],
 }
 
@@ -61,6 +67,8 @@ impl Tally {
             loose: 0,
             building: 0,
             weak: [0; 3],
+            paid: [0; OPERATORS],
+            duty: 0,
             frame: [0; FRAME],
         }
     }
@@ -91,13 +99,23 @@ impl Tally {
             self.weak[0],
             self.weak[1],
             self.weak[2],
+            self.paid[0],
+            self.paid[1],
+            self.paid[2],
+            self.paid[3],
+            self.paid[4],
+            self.paid[5],
+            self.paid[6],
+            self.paid[7],
+            self.duty,
         ]
     }
 
     // The tally whose numbers these are: none where a copy is no byte or a flag is neither 0 nor 1.
     pub fn of_numbers(numbers: &[u64; NUMBERS], frame: &[u8; FRAME]) -> Option<Tally> {
-        let [bytes, fill, stray, voted, split, open, first, second, ..] = *numbers;
-        let [.., hunted, good, damaged, unsynced, placed, hunting, matched, erasure, majors, broken, loose, building, weak1, weak2, weak3] = *numbers;
+        let [bytes, fill, stray, voted, split, open, first, second, rest @ ..] = *numbers;
+        let [hunted, good, damaged, unsynced, placed, hunting, matched, erasure, majors, broken, loose, building, rest @ ..] = rest;
+        let [weak1, weak2, weak3, paid @ .., duty] = rest;
         Some(Tally {
             bytes,
             fill,
@@ -120,6 +138,8 @@ impl Tally {
             loose,
             building,
             weak: [weak1, weak2, weak3],
+            paid,
+            duty,
             frame: *frame,
         })
     }

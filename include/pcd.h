@@ -36,10 +36,11 @@ extern "C" {
 #define PCD_NOT_NORMALISED 10    /* a six-byte number is not normalised */
 #define PCD_NO_WORD_FOR_DOUBLE 11 /* a double has no six-byte word */
 #define PCD_LIST_TOO_LONG 12     /* a list of instants is longer than 100,000 */
+#define PCD_NO_SUCH_OPERATOR 14  /* the operator's number is above 7 */
 
 /* ---- Sizes */
 
-#define PCD_NUMBERS 23           /* the numbers of a tally */
+#define PCD_NUMBERS 32           /* the numbers of a tally */
 #define PCD_MINOR_FRAME 128      /* the bytes of a minor frame */
 #define PCD_MAJOR_FRAME 16384    /* the bytes of a major frame, and of the area that it is put together in */
 #define PCD_COLUMN 128           /* word 72 of each minor frame of a major frame */
@@ -74,21 +75,35 @@ enum {
     PCD_BUILDING,   /* 0 to 127 */
     PCD_WEAK1,      /* voted groups whose first copy alone disagreed; weak1 + weak2 + weak3 is at most voted */
     PCD_WEAK2,      /* whose second copy did */
-    PCD_WEAK3       /* whose third copy did */
+    PCD_WEAK3,      /* whose third copy did */
+    PCD_PAID0,      /* the major frames paid to operator 0; the eight add up to majors */
+    PCD_PAID1,
+    PCD_PAID2,
+    PCD_PAID3,
+    PCD_PAID4,
+    PCD_PAID5,
+    PCD_PAID6,
+    PCD_PAID7,
+    PCD_DUTY        /* who is on duty, 0 to 7 */
 };
 
-/* Writes a fresh tally: it hunts, and is otherwise 0. */
+/* Writes a fresh tally: it hunts, and is otherwise 0, so that operator 0 is on duty. */
 void pcd_fresh(uint64_t numbers[PCD_NUMBERS], uint8_t frame[PCD_MINOR_FRAME]);
 
 /* Takes a piece of the unpacked stream, of any length. The area has PCD_MAJOR_FRAME bytes, in which the caller does not write between calls.
  *
  * Accepted: the tally moves on; each minor frame of a run is put at 128 times its number in the area; answer[0] is how many bytes were
- * taken, answer[1] whether a major frame is complete, 1 or 0. Where one is, the area holds it, the call stopped just after its last byte,
- * and the next call goes on from there; else the whole piece was taken.
+ * taken, answer[1] whether a major frame is complete, 1 or 0. Where one is, the area holds it, it is paid to the operator on duty, the call
+ * stopped just after its last byte, and the next call goes on from there; else the whole piece was taken.
  *
  * Refused: 1, a copy is above 255, a flag above 1, or the tally is not in order; 2, the area's length; 3. Nothing is taken or written. */
 uint8_t pcd_take(uint64_t numbers[PCD_NUMBERS], uint8_t frame[PCD_MINOR_FRAME], const uint8_t *piece, size_t piece_len, uint8_t *area,
                  size_t area_len, uint64_t answer[2]);
+
+/* Puts an operator on duty, 0 to 7, and changes nothing else: the major frames that are complete from now on are paid to that operator.
+ *
+ * Refused: 1, as above; 14. Nothing is written. */
+uint8_t pcd_change_duty(uint64_t numbers[PCD_NUMBERS], uint8_t frame[PCD_MINOR_FRAME], uint64_t operator_number);
 
 /* ---- The writer: for each byte SYNC, three copies and so many FILL as the spacing says, 0 to 60. */
 

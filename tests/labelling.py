@@ -10,7 +10,9 @@ the paper's order, and no tally goes from byte to byte:
     counts           the bytes         ->  the eighteen counts
     kept             the bytes         ->  what the tally holds beside the counts
     area_after       the bytes         ->  the lent area
-    calls            the bytes, a cut  ->  what each call answers
+    calls            bytes, requests   ->  what each call answers
+    shifts           the answers       ->  who is on duty as each byte is taken (paper 02, request 5)
+    paid             bytes, shifts     ->  the eight operators' counts
 
 The sync words stand at places 0 to 2 of a minor frame, as the book has it (docs/DECISIONS.md)."""
 from collections import namedtuple
@@ -24,6 +26,7 @@ PLACES = 128
 MINORS = 128
 AREA = PLACES * MINORS
 HOLE = None
+OPERATORS = 8
 
 # A word or a hole, and how many bytes of the stream there are up to its last copy.
 Word = namedtuple("Word", "value end")
@@ -33,6 +36,11 @@ Frame = namedtuple("Frame", "values kind end")
 Cut = namedtuple("Cut", "hunted frames part since")
 # A run of good frames 0, 1, ..: where in the list of closed frames it begins, how long it is, and major, broken or building.
 Run = namedtuple("Run", "start length kind")
+# What a call is asked: to take a piece of so many bytes, or to put an operator on duty; and what it answers.
+Piece = namedtuple("Piece", "length")
+Change = namedtuple("Change", "operator")
+Took = namedtuple("Took", "bytes complete")
+Changed = namedtuple("Changed", "operator refusal")
 
 COUNTS = "bytes fill stray voted split weak1 weak2 weak3 open hunted good damaged unsynced placed majors broken loose building".split()
 
@@ -224,20 +232,44 @@ def major_frames(data):
     return [bytes(value for frame in cut.frames[run.start:run.start + MINORS] for value in frame.values) for run in runs if run.kind == "major"]
 
 
-def calls(data, lengths):
-    """What each call answers, as pairs (bytes taken, whether a major frame is complete), where the bytes come in pieces of these lengths.
+def calls(data, asked):
+    """What each call answers, where the bytes come in these pieces and operators are named between them.
 
     A call takes its whole piece, or stops just after the byte that completes a major frame; the next call is then handed the rest of the
-    piece, if there is any. A piece of no bytes is a call too."""
+    piece, if there is any. A piece of no bytes is a call too. A call that names an operator takes no bytes, and is refused 14 above 7."""
     ends = major_ends(data)
     answers, at = [], 0
-    for length in lengths:
-        stop = at + length
+    for request in asked:
+        if isinstance(request, Change):
+            answers.append(Changed(request.operator, 0 if request.operator < OPERATORS else 14))
+            continue
+        stop = at + request.length
         while True:
             end = min([e for e in ends if at < e <= stop], default=None)
-            answers.append(((stop if end is None else end) - at, end is not None))
+            answers.append(Took((stop if end is None else end) - at, end is not None))
             at = stop if end is None else end
             if at == stop:
                 break
     assert at == len(data)
     return answers
+
+
+# ---- Operators (paper 02, request 5)
+
+def shifts(answers):
+    """Who is on duty as each byte is taken, and at the end: read off the list of calls. Operator 0 begins."""
+    stamps, duty = [], 0
+    for answer in answers:
+        if isinstance(answer, Took):
+            stamps += [duty] * answer.bytes
+        elif answer.refusal == 0:
+            duty = answer.operator
+    return stamps, duty
+
+
+def paid(data, stamps):
+    """For each operator the number of complete major frames whose last byte was taken on their duty."""
+    last = [stamps[end - 1] for end in major_ends(data)]
+    counts_of = [last.count(operator) for operator in range(OPERATORS)]
+    assert sum(counts_of) == counts(data)["majors"]
+    return counts_of

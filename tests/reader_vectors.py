@@ -5,18 +5,21 @@ Run from the repository's root: python3 tests/reader_vectors.py
 It writes crates/reader_vectors/stdin (a record for each stream) and crates/reader_vectors/stdout.
 With --check it writes nothing and says whether the stored files are what it would write. With --list it writes the names of the streams.
 
-A record: the stream's length (4 bytes, first byte highest), eight piece lengths (4 bytes each, 0 for none), then the stream.
-The stream is read once for each piece length, from a fresh tally and a zeroed area. A call that stops at a completed major frame is
-followed by one with the rest of its piece. Before the first piece and after each piece there are two more calls: one with a piece of no
-bytes, which is taken, and one with an area of 16,383 bytes, which is refused 2. Each goes on from the tally that the last one gave back.
+A record: the stream's length (4 bytes, first byte highest), eight piece lengths (4 bytes each, 0 for none), eight operators' numbers (8 bytes
+each), then the stream. The stream is read once for each piece length, from a fresh tally and a zeroed area. A call that stops at a completed
+major frame is followed by one with the rest of its piece. Before the first piece and after each piece there are three more calls: one with a
+piece of no bytes, which is taken, one with an area of 16,383 bytes, which is refused 2, and one that names an operator: the eight numbers in
+turn, of which those above 7 are refused 14. Each goes on from the tally that the last one gave back.
 
-For each piece length there are four lines or more:
+For each piece length there are five lines or more:
   stream of N bytes in pieces of P
   paid at B area S         for each major frame: the bytes taken by then, and the area's checksum
   bytes .. building ..     the eighteen counts
+  paid to .. duty D        the eight operators' counts, and who is on duty at the end
   hunting .. frame S       what the tally holds beside the counts
-  area S calls .. answers S refused 2: .. otherwise: ..
-`calls` counts the calls that are not refused, and `answers` is the checksum of what each says: bytes taken, complete, refusal."""
+  area S calls .. answers S changed .. refused 2: .. refused 14: .. otherwise: ..
+`calls` counts the calls with a piece that are not refused, and `answers` is the checksum of what each says: bytes taken, complete, refusal.
+`changed` counts the changes of duty that are not refused."""
 import os
 import random
 import struct
@@ -24,7 +27,7 @@ import sys
 
 sys.dont_write_bytecode = True
 import labelling
-from labelling import FILL, SYNC, SYNC_WORDS
+from labelling import FILL, SYNC, SYNC_WORDS, Change, Changed, Piece, Took
 import stored
 
 CRATE = os.path.join("crates", "reader_vectors")
@@ -45,7 +48,16 @@ def pieces(length, piece):
     return [min(piece, length - at) for at in range(0, length, piece)]
 
 
-def lines(data, piece_lengths):
+def asked(lengths, operators):
+    """The calls of a reading, but for those refused 2."""
+    for turn, length in enumerate([None] + lengths):
+        if length is not None:
+            yield Piece(length)
+        yield Piece(0)
+        yield Change(operators[turn % len(operators)])
+
+
+def lines(data, piece_lengths, operators):
     whole = " ".join("%s %d" % item for item in labelling.counts(data).items())
     k = labelling.kept(data)
     rest = "hunting %d match %d hole %d copies %d %d frame %d" % (
@@ -57,13 +69,18 @@ def lines(data, piece_lengths):
     area = checksum(labelling.area_after(data))
     for piece in piece_lengths:
         lengths = pieces(len(data), piece)
-        answers = labelling.calls(data, [0] + [n for length in lengths for n in (length, 0)])
+        answers = labelling.calls(data, asked(lengths, operators))
+        stamps, duty = labelling.shifts(answers)
+        taken = [answer for answer in answers if isinstance(answer, Took)]
+        refusals = [answer.refusal for answer in answers if isinstance(answer, Changed)]
         yield "stream of %d bytes in pieces of %d" % (len(data), piece)
         yield from paid
         yield whole
+        yield "paid to %s duty %d" % (" ".join(str(n) for n in labelling.paid(data, stamps)), duty)
         yield rest
-        yield "area %d calls %d answers %d refused 2: %d otherwise: 0" % (
-            area, len(answers), checksum(n for taken, complete in answers for n in (taken, int(complete), 0)), len(lengths) + 1)
+        yield "area %d calls %d answers %d changed %d refused 2: %d refused 14: %d otherwise: 0" % (
+            area, len(taken), checksum(n for took in taken for n in (took.bytes, int(took.complete), 0)),
+            refusals.count(0), len(lengths) + 1, refusals.count(14))
 
 
 # ---- Making streams
@@ -180,12 +197,21 @@ def cuts(length):
     return (11, 1021, 4096, 65536, 65548, 131083)
 
 
+def operators(rng):
+    """Eight numbers to name in turn: two in three an operator's, the others of nobody."""
+    nobody = (8, 9, 255, 256, 263, 1 << 32, 1 << 63, (1 << 64) - 1)
+    return [rng.choice(nobody) if rng.randrange(3) == 0 else rng.randrange(labelling.OPERATORS) for _ in range(8)]
+
+
 def files():
     records, text = [], []
+    rng = random.Random(286)
     for _, data in streams():
-        chosen = cuts(len(data))
-        records.append(struct.pack(">9I", len(data), *(chosen + (0,) * (8 - len(chosen)))) + data)
-        text += lines(data, chosen)
+        chosen, named = cuts(len(data)), operators(rng)
+        records.append(struct.pack(">9I8Q", len(data), *(chosen + (0,) * (8 - len(chosen))), *named) + data)
+        text += lines(data, chosen, named)
+    payments = [[int(n) for n in line.split()[2:10]] for line in text if line.startswith("paid to")]
+    assert all(sum(of_one) > 1 for of_one in zip(*payments)), "the seed leaves an operator without major frames"
     return {"stdin": b"".join(records), "stdout": "".join(line + "\n" for line in text).encode()}
 
 

@@ -35,3 +35,6 @@ pub const NO_WORD_FOR_DOUBLE: u8 = 11;
 
 // A list of instants is longer than 100,000.
 pub const LIST_TOO_LONG: u8 = 12;
+
+// The operator's number is above 7.
+pub const NO_SUCH_OPERATOR: u8 = 14;

@@ -14,7 +14,7 @@ use Rattle.labelling.specs.declared.Tally.{Tally}
 use Rattle.labelling.specs.Words.{Vote}
 use Rattle.labelling.specs.Machine.{stateOf}
 use Rattle.labelling.specs.Order.{inOrder}
-use Rattle.labelling.specs.Calls.{Call, takeRefusal, answer, progressOf, taken, joined, Handed, done, refused, accepted}
+use Rattle.labelling.specs.Calls.{TakeCall, takeRefusal, answer, progressOf, taken, Call, takenBy, joined, Handed, done, refused, accepted, changed}
 use Rattle.labelling.specs.Calls.{left, Reads, no-call, takes-all, stops}
 use Rattle.labelling.specs.Once.{framesIn, ReadBySome}
 use Rattle.labelling.proofs.RunSteps.{area-length}
@@ -30,13 +30,14 @@ module _ (vote : Vote) where
 
   pub joined-append : (cs ds : List Call) → joined vote (cs ++ ds) ≡ joined vote cs ++ joined vote ds
   unfolding joined
-  joined-append cs ds = concatMap-append (taken vote) cs ds
+  joined-append cs ds = concatMap-append (takenBy vote) cs ds
 
   pub handed-append : {t u v : Tally} {a b c : List ℕ} {cs ds : List Call} → Handed vote t a cs u b → Handed vote u b ds v c
       → Handed vote t a (cs ++ ds) v c
   handed-append done k = k
   handed-append (refused c n e h) k = refused c n e (handed-append h k)
   handed-append (accepted c e h) k = accepted c e (handed-append h k)
+  handed-append (changed d e h) k = changed d e (handed-append h k)
 
   pub reads-append : {t u v : Tally} {a b c : List ℕ} {ps qs rs : List (List ℕ)} {cs ds : List Call} → Reads vote t a ps cs u b qs
       → Reads vote u b qs ds v c rs → Reads vote t a ps (cs ++ ds) v c rs
@@ -82,7 +83,7 @@ module _ (vote : Vote) where
 
     -- a call for the piece p is accepted where the bytes fit
     module _ (t : Tally) (a xs p : List ℕ) (i : Reached t a xs) (fits : length xs + length p ≤ 2 ^ 40) where
-      abbrev call : Call
+      abbrev call : TakeCall
       call = record { tally = t; piece = p; area = a }
 
       call-accepted : takeRefusal call ≡ 0
@@ -111,7 +112,7 @@ module _ (vote : Vote) where
     unfolding left
     read-piece p ps then-ps then-rest t a xs i fits = go (answer vote c .complete) refl
       where
-        c : Call
+        c : TakeCall
         c = record { tally = t; piece = p; area = a }
 
         whole : length (stream (p ∷ ps)) ≡ length p + length (stream ps)
