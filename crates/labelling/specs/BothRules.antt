@@ -37,13 +37,17 @@ pub record SameShifts (cs ds : List Call) : Type 0 where
 abbrev pub underRule : ℕ → Answer → Answer
 underRule rule r = record { tally = withRule rule (r .tally); area = r .area; taken = r .taken; complete = r .complete }
 
+-- call by call the same is left and answered, but for the rule that the tally carries
+abbrev pub SameAnswers : List Call → List Call → Type 0
+SameAnswers cs ds = SideBySide (λ c d. answer d ≡ underRule 2 (answer c)) (λ c d. dutyAnswer d ≡ withRule 2 (dutyAnswer c)) cs ds
+
 -- the calls cs under rule 1 leave t and a, and ds under rule 2 leave u and b: all is the same but the rule that the tally carries
 pub record Alike (cs ds : List Call) (t u : Tally) (a b : List ℕ) : Type 0 where
   pub tally-same : u ≡ withRule 2 t
   pub area-same : b ≡ a
   pub paid-same : paid ds ≡ paid cs
-  -- and so is what each call leaves and answers, where the cuts are the same
-  pub each-call : SameCuts cs ds → SideBySide (λ c d. answer d ≡ underRule 2 (answer c)) (λ c d. dutyAnswer d ≡ withRule 2 (dutyAnswer c)) cs ds
+  -- and so it is call by call, where the cuts are the same
+  pub each-call : SameCuts cs ds → SameAnswers cs ds
 
 pub record ReadAlike : Type 0 where
   pub read-alike : (a₀ : List ℕ) → length a₀ ≡ majorFrame → (cs ds : List Call) (t u : Tally) (a b : List ℕ) → Handed (fresh 1) a₀ cs t a
