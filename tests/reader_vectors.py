@@ -30,21 +30,13 @@ import sys
 sys.dont_write_bytecode = True
 import labelling
 from labelling import BY_BITS, BY_BYTES, FILL, SYNC, SYNC_WORDS, Change, Changed, Piece, Stream, Took
-import stored
+from stored import checksum, keep
 
 CRATE = os.path.join("crates", "reader_vectors")
-MODULUS = 4294967291
 HOLE = labelling.HOLE
 
 
 # ---- What a record's lines say
-
-def checksum(numbers):
-    h = 0
-    for n in numbers:
-        h = (h * 31 + n) % MODULUS
-    return h
-
 
 def pieces(length, piece):
     return [min(piece, length - at) for at in range(0, length, piece)]
@@ -253,7 +245,7 @@ def main():
             print("%7d  %s" % (len(data), name))
         return
     made = files()
-    stored.keep(CRATE, made)
+    keep(CRATE, made)
     print(made["stdout"].count(b"stream of "), "readings,", len(made["stdin"]), "bytes")
 
 
