@@ -62,6 +62,7 @@ eachNumber t first second hunting erasure =
     ++ runNumbers (t .runs)
     ++ weakNumbers (g .weak)
     ++ eachOperator (t .operators)
+    ++ t .rule ∷ []
 
 pub written-out : (t : Tally) {first second hunting erasure : ℕ} → first ≡ t .groups .first → second ≡ t .groups .second
     → hunting ≡ one (t .framing .hunting) → erasure ≡ one (t .framing .erasure) → length (t .operators .paid) ≡ 8
@@ -81,7 +82,8 @@ crosses t k =
     )
 
 count-is : (t : Tally) → Sized t → length (numbersOf t) ≡ numberCount
-count-is t k = omega (arith, length-append (t .operators .paid) (t .operators .duty ∷ []), k .eight)
+count-is t k =
+    omega (arith, length-append (operatorNumbers (t .operators)) (t .rule ∷ []), length-append (t .operators .paid) (t .operators .duty ∷ []), k .eight)
 
 reads-back : (t : Tally) → Sized t → tallyOf (numbersOf t) (t .frame) ≡ t
 reads-back t k =
@@ -91,6 +93,7 @@ reads-back t k =
       framing = t .framing;
       runs = t .runs;
       operators = record { paid = l; duty = t .operators .duty };
+      rule = t .rule;
       frame = t .frame;
     })
     (sym (spelled (t .operators .paid) 8 (k .eight))))
