@@ -1,6 +1,8 @@
 // What is written of a stream.
 use crate::Reading;
+use crate::shifts::Shifts;
 use base::wide;
+use labelling::Operators;
 use labelling::Tally;
 use vectors::bit;
 use vectors::checksum;
@@ -27,12 +29,34 @@ pub(crate) fn whole(r: Reading, area: &[u8]) {
     groups(t);
     framing(t);
     runs(t);
+    paid_to(t.operators);
     kept(t);
     field(b"area ", checksum(area));
     field(b" calls ", r.calls);
     field(b" answers ", r.answers);
-    field(b" refused 2: ", r.refused);
+    counted(r.shifts, r.refused);
     field(b" otherwise: ", r.otherwise);
+    put(b"\n");
+}
+
+fn counted(s: Shifts, refused: u64) {
+    field(b" changed ", s.changed);
+    field(b" refused 2: ", refused);
+    field(b" refused 14: ", s.refused);
+}
+
+// The operators' counts, and who is on duty.
+fn paid_to(o: Operators) {
+    let p = o.paid;
+    field(b"paid to ", p[0]);
+    field(b" ", p[1]);
+    field(b" ", p[2]);
+    field(b" ", p[3]);
+    field(b" ", p[4]);
+    field(b" ", p[5]);
+    field(b" ", p[6]);
+    field(b" ", p[7]);
+    field(b" duty ", o.duty);
     put(b"\n");
 }
 
