@@ -6,7 +6,7 @@ use Rattle.labelling.specs.declared.Tally.{Tally}
 use Rattle.labelling.specs.Machine.{fresh}
 use Rattle.labelling.specs.Order.{isRule}
 use Rattle.labelling.specs.Once.{freshRefusal, ruleGiven, FreshPromise}
-use Rattle.labelling.proofs.Demand.{once, reaches}
+use Rattle.labelling.proofs.Demand.{once, reaches, reaches-shifts}
 use Rattle.labelling.proofs.BothRules.{read-alike, cuts-suffice}
 
 -- ---- the refusal
@@ -35,5 +35,6 @@ fresh-promise rule n r e f = rw (e, f) record {
   is-fresh = refl;
   once = once (ruleGiven rule) (given-rule rule);
   reaches = reaches (ruleGiven rule) (given-rule rule);
+  reaches-shifts = reaches-shifts (ruleGiven rule) (given-rule rule);
   alike = record { read-alike = read-alike; cuts-suffice = cuts-suffice };
 }
