@@ -2,12 +2,13 @@
 ghost use Rattle.crossing.specs.Crossing.{lent, TakeCrossed, FreshCrossed, places, DutyCrossed};
 use crossing::NUMBERS;
 
-// Writes a fresh tally.
+// Writes a fresh tally of this rule: 1, by bytes, or 2, by bits. Returns the number of the refusal, 0 for none; after a refusal the fresh tally of
+// rule 1 is written.
 #[no_mangle]
-pub extern "C" fn pcd_fresh(numbers: &mut [u64; NUMBERS], frame: &mut [u8; 128])
-    ensures { λ _. ⌜ FreshCrossed (now (numbers .exit)) (now (frame .exit)) ⌝ }
+pub extern "C" fn pcd_fresh(rule: u64, numbers: &mut [u64; NUMBERS], frame: &mut [u8; 128]) -> u8
+    ensures { λ r. ⌜ FreshCrossed rule r (now (numbers .exit)) (now (frame .exit)) ⌝ }
 {
-    crossing::fresh(numbers, frame);
+    crossing::fresh(rule, numbers, frame)
 }
 
 // Takes a piece of the stream. Returns the number of the refusal, 0 for none; a refusal writes nothing. `answer` gets the bytes taken, then

@@ -8,8 +8,7 @@ use native.Mathlib.Omega.{arith}
 use borrow.Author.Tests.{eq-eqb, ne-eqb}
 use Rattle.base.specs.Lists.{one}
 use Rattle.labelling.specs.declared.Tally.{Tally}
-use Rattle.labelling.specs.Words.{byteVote}
-use Rattle.labelling.specs.Machine.{fresh}
+use Rattle.labelling.specs.Once.{FreshPromise}
 use Rattle.labelling.specs.Calls.{Answer, answer, takeRefusal, dutyAnswer}
 use Rattle.labelling.proofs.CallLaws.{refused-answer}
 use Rattle.reader.specs.declared.duty.DutyChanged.{DutyChanged}
@@ -19,12 +18,17 @@ use Rattle.crossing.specs.Crossing.{isTally, tallyOf, numbersOf, Lent, l
 use Rattle.crossing.specs.Crossing.{Places, places, dutyCallOf, tallyPlaces, dutyRefused, dutyLeaves, DutyCrossed}
 use Rattle.crossing.proofs.Numbers.{layout}
 
-pub fresh-crossed : (t : Tally) → t ≡ fresh → FreshCrossed (numbersOf t) (t .frame)
-fresh-crossed t e = record { numbers-is = ap numbersOf e; frame-is = ap (λ (t : Tally). t .frame) e; layout = layout }
+pub fresh-crossed : {rule n : ℕ} {t : Tally} → FreshPromise rule n t → FreshCrossed rule n (numbersOf t) (t .frame)
+fresh-crossed p = record {
+  refusal-is = p .refusal-is;
+  numbers-is = ap numbersOf (p .is-fresh);
+  frame-is = ap (λ (t : Tally). t .frame) (p .is-fresh);
+  layout = layout;
+}
 
 module _ (l : Lent) (piece : List ℕ) where
   -- what is left by a call that is not refused, and by one that is
-  left-written : takeRefused l piece ≡ 0 → written (answer byteVote (callOf l piece)) ≡ takeLeaves l piece
+  left-written : takeRefused l piece ≡ 0 → written (answer (callOf l piece)) ≡ takeLeaves l piece
   unfolding takeLeaves
   left-written z = rw z
 
@@ -57,7 +61,7 @@ module _ (l : Lent) (piece : List ℕ) where
     -- the area of a refused call
     area-kept : (n : ℕ) → takeRefusal (callOf l piece) ≡ n → (n ≡ 0 → ⊥) → area ≡ l .area
     area-kept zero q h = absurd (h refl)
-    area-kept (suc n) q h = ap (λ (a : Answer). a .area) (promised .answer-is ∙ refused-answer byteVote (callOf l piece) n q)
+    area-kept (suc n) q h = ap (λ (a : Answer). a .area) (promised .answer-is ∙ refused-answer (callOf l piece) n q)
 
     pub refused-crossed : (r .refusal ≡ 0 → ⊥) → TakeCrossed l piece (r .refusal) (lent (l .numbers) (l .frame) area (l .answer))
     refused-crossed h = record {

@@ -52,6 +52,10 @@ eachOperator o = elements (o .paid) 0 8 ++ o .duty ∷ []
 each-operator : (o : Operators) → length (o .paid) ≡ 8 → eachOperator o ≡ operatorNumbers o
 each-operator o h = ap (λ (l : List ℕ). l ++ o .duty ∷ []) (sym (spelled (o .paid) 8 h))
 
+-- and the rule after them
+each-last : (o : Operators) (rule : ℕ) → length (o .paid) ≡ 8 → eachOperator o ++ rule ∷ [] ≡ operatorNumbers o ++ rule ∷ []
+each-last o rule h = ap (λ (l : List ℕ). l ++ rule ∷ []) (each-operator o h)
+
 -- all numbers, where the copies and the flags are these
 abbrev eachNumber : Tally → ℕ → ℕ → ℕ → ℕ → List ℕ
 eachNumber t first second hunting erasure =
@@ -62,11 +66,12 @@ eachNumber t first second hunting erasure =
     ++ runNumbers (t .runs)
     ++ weakNumbers (g .weak)
     ++ eachOperator (t .operators)
+    ++ t .rule ∷ []
 
 pub written-out : (t : Tally) {first second hunting erasure : ℕ} → first ≡ t .groups .first → second ≡ t .groups .second
     → hunting ≡ one (t .framing .hunting) → erasure ≡ one (t .framing .erasure) → length (t .operators .paid) ≡ 8
     → eachNumber t first second hunting erasure ≡ numbersOf t
-written-out t a b c d h = rw (a, b, c, d, each-operator (t .operators) h)
+written-out t a b c d h = rw (a, b, c, d, each-last (t .operators) (t .rule) h)
 
 -- ---- both ways
 
@@ -81,16 +86,18 @@ crosses t k =
     )
 
 count-is : (t : Tally) → Sized t → length (numbersOf t) ≡ numberCount
-count-is t k = omega (arith, length-append (t .operators .paid) (t .operators .duty ∷ []), k .eight)
+count-is t k =
+    omega (arith, length-append (operatorNumbers (t .operators)) (t .rule ∷ []), length-append (t .operators .paid) (t .operators .duty ∷ []), k .eight)
 
 reads-back : (t : Tally) → Sized t → tallyOf (numbersOf t) (t .frame) ≡ t
 reads-back t k =
-    rw (flag-read (t .framing .hunting), flag-read (t .framing .erasure), ← each-operator (t .operators) (k .eight))
+    rw (flag-read (t .framing .hunting), flag-read (t .framing .erasure), ← each-last (t .operators) (t .rule) (k .eight))
     (ap (λ (l : List ℕ). record {
       groups = t .groups;
       framing = t .framing;
       runs = t .runs;
       operators = record { paid = l; duty = t .operators .duty };
+      rule = t .rule;
       frame = t .frame;
     })
     (sym (spelled (t .operators .paid) 8 (k .eight))))

@@ -1,4 +1,4 @@
--- A tally as it crosses to another language: 32 numbers, and the frame beside them. Definitions only.
+-- A tally as it crosses to another language: 33 numbers, and the frame beside them. Definitions only.
 use mathlib.Core.Path.{_≡_}
 use mathlib.Core.Bool.{Bool, true, cond, not, _&&_}
 use mathlib.Core.List.{List, [], _∷_, _++_}
@@ -13,8 +13,8 @@ use Rattle.labelling.specs.declared.Operators.{Operators}
 use Rattle.labelling.specs.declared.Runs.{Runs}
 use Rattle.labelling.specs.declared.Tally.{Tally}
 use Rattle.labelling.specs.declared.Weak.{Weak}
-use Rattle.labelling.specs.Words.{byteVote}
 use Rattle.labelling.specs.Machine.{fresh}
+use Rattle.labelling.specs.Once.{freshRefusal, ruleGiven}
 use Rattle.labelling.specs.Calls.{TakeCall, Answer, answer, takeRefusal, DutyCall, dutyRefusal, dutyAnswer}
 
 -- ---- a tally to numbers: the counts as they are, a copy as its byte, a flag as 1 or 0
@@ -36,14 +36,16 @@ weakNumbers w = w .first ∷ w .second ∷ w .third ∷ []
 abbrev pub operatorNumbers : Operators → List ℕ
 operatorNumbers o = o .paid ++ o .duty ∷ []
 
--- the weak counts (02, request 2) and the operators (02, request 5) come last, so that the places of the numbers before them stay
+-- the weak counts (02, request 2), the operators (02, request 5) and the rule (02, request 6) come last, so that the places of the numbers
+-- before them stay
 abbrev pub numbersOf : Tally → List ℕ
 numbersOf t =
     groupNumbers (t .groups) ++ framingNumbers (t .framing) ++ runNumbers (t .runs) ++ weakNumbers (t .groups .weak) ++ operatorNumbers (t .operators)
+    ++ t .rule ∷ []
 
 -- how many they are
 abbrev pub numberCount : ℕ
-numberCount = 32
+numberCount = 33
 
 -- ---- numbers to a tally
 
@@ -90,7 +92,7 @@ operatorsOf n = record {
 }
 
 abbrev pub tallyOf : List ℕ → List ℕ → Tally
-tallyOf n frame = record { groups = groupsOf n; framing = framingOf n; runs = runsOf n; operators = operatorsOf n; frame = frame }
+tallyOf n frame = record { groups = groupsOf n; framing = framingOf n; runs = runsOf n; operators = operatorsOf n; rule = getD n 32 0; frame = frame }
 
 -- the two copies of a tally are bytes, and the paid counts are eight, as its struct has them
 pub record Sized (t : Tally) : Type 0 where
@@ -108,10 +110,11 @@ pub record Layout : Type 0 where
 
 -- ---- what the entries promise
 
--- `fresh` leaves the lent numbers and frame
-pub record FreshCrossed (numbers frame : List ℕ) : Type 0 where
-  pub numbers-is : numbers ≡ numbersOf fresh
-  pub frame-is : frame ≡ fresh .frame
+-- `fresh` by a rule returns r and leaves the lent numbers and frame: those of the fresh tally of the rule, and after a refusal of rule 1
+pub record FreshCrossed (rule r : ℕ) (numbers frame : List ℕ) : Type 0 where
+  pub refusal-is : r ≡ freshRefusal rule
+  pub numbers-is : numbers ≡ numbersOf (fresh (ruleGiven rule))
+  pub frame-is : frame ≡ fresh (ruleGiven rule) .frame
   pub layout : Layout
 
 -- the places lent to `take` beside the piece
@@ -138,7 +141,7 @@ written a = lent (numbersOf (a .tally)) (a .tally .frame) (a .area) (a .taken �
 
 -- what is left: the answer, and after a refusal all as it was
 unfoldable pub takeLeaves : Lent → List ℕ → Lent
-takeLeaves l piece = cond (eqb (takeRefused l piece) 0) (written (answer byteVote (callOf l piece))) l
+takeLeaves l piece = cond (eqb (takeRefused l piece) 0) (written (answer (callOf l piece))) l
 
 -- `take` of a piece, with these places lent, returns r and leaves them so
 pub record TakeCrossed (l : Lent) (piece : List ℕ) (r : ℕ) (left : Lent) : Type 0 where

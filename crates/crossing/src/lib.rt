@@ -20,14 +20,17 @@ use labelling::Tally;
 use labelling::Weak;
 
 // How many numbers a tally crosses as.
-pub const NUMBERS: usize = 32;
+pub const NUMBERS: usize = 33;
 
-// Writes a fresh tally. What it promises of the numbers: they are those of a tally, and of that one alone.
-pub fn fresh(numbers: &mut [u64; NUMBERS], frame: &mut [u8; 128])
-    ensures { λ _. ⌜ FreshCrossed (now (numbers .exit)) (now (frame .exit)) ⌝ }
+// Writes a fresh tally of this rule. Returns the number of the refusal, 0 for none; after a refusal the fresh tally of rule 1 is written. What it
+// promises of the numbers: they are those of a tally, and of that one alone.
+pub fn fresh(rule: u64, numbers: &mut [u64; NUMBERS], frame: &mut [u8; 128]) -> u8
+    ensures { λ r. ⌜ FreshCrossed rule r (now (numbers .exit)) (now (frame .exit)) ⌝ }
 {
-    let t = reader::fresh();
+    let r = reader::fresh(rule);
+    let t = r.tally;
     put_tally(t, numbers, frame);
+    r.refusal
 }
 
 // Takes a piece of the stream. Returns the number of the refusal, 0 for none; a refusal writes nothing. `answer` gets the bytes taken, then
@@ -79,6 +82,7 @@ pub(crate) fn tally_of(n: &[u64; NUMBERS], frame: &[u8; 128]) -> Tally
         framing: framing,
         runs: runs,
         operators: operators,
+        rule: n[32],
         frame: bytes,
     }
 }
@@ -128,6 +132,7 @@ pub(crate) fn put_tally(t: Tally, n: &mut [u64; NUMBERS], frame: &mut [u8; 128])
         p[6],
         p[7],
         t.operators.duty,
+        t.rule,
     ];
     let bytes = t.frame;
     *frame = bytes;

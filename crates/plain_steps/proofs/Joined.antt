@@ -13,7 +13,7 @@ use Rattle.labelling.specs.declared.Framing.{Framing}
 use Rattle.labelling.specs.declared.Groups.{Groups}
 use Rattle.labelling.specs.declared.Runs.{Runs}
 use Rattle.labelling.specs.declared.Word.{Word}
-use Rattle.labelling.specs.Words.{byteVote, weakCopy}
+use Rattle.labelling.specs.Words.{Vote, weakCopy}
 use Rattle.labelling.specs.MinorFrames.{isWord}
 use Rattle.labelling.specs.Machine.{closes, afterClosing, afterByte, wordGiven, byteEvent, byteStep}
 use Rattle.labelling.specs.Machine.{WordEvent, hunts, locks, fills, closes-frame, huntEvent, wordEvent, afterWord, frameAfter}
@@ -84,26 +84,27 @@ module _ (l : Layers) (w : Word) (frame area : List ℕ) where
 
 -- ---- a byte
 
-no-word : (n : ℕ) (g : Groups) (b : ℕ) → n < 3 → wordGiven (byteEvent byteVote n g b) ≡ none
-no-word zero g b h = refl
-no-word (suc zero) g b h = refl
-no-word (suc (suc zero)) g b h = refl
-no-word (suc (suc (suc n))) g b h = absurd (omega arith)
+no-word : (vote : Vote) (n : ℕ) (g : Groups) (b : ℕ) → n < 3 → wordGiven (byteEvent vote n g b) ≡ none
+no-word vote zero g b h = refl
+no-word vote (suc zero) g b h = refl
+no-word vote (suc (suc zero)) g b h = refl
+no-word vote (suc (suc (suc n))) g b h = absurd (omega arith)
 
-third-copy : (n : ℕ) (g : Groups) (b : ℕ) → 3 ≤ n → byteEvent byteVote n g b ≡ closes (byteVote (g .first) (g .second) b) (weakCopy (g .first) (g .second) b)
-third-copy n g b h = rw (ne-eqb n 0 (λ e. omega arith), ne-eqb n 1 (λ e. omega arith), ne-eqb n 2 (λ e. omega arith))
+third-copy : (vote : Vote) (n : ℕ) (g : Groups) (b : ℕ) → 3 ≤ n
+    → byteEvent vote n g b ≡ closes (vote (g .first) (g .second) b) (weakCopy (g .first) (g .second) b)
+third-copy vote n g b h = rw (ne-eqb n 0 (λ e. omega arith), ne-eqb n 1 (λ e. omega arith), ne-eqb n 2 (λ e. omega arith))
 
-module _ (l : Layers) (frame area : List ℕ) (b : ℕ) where
+module _ (vote : Vote) (l : Layers) (frame area : List ℕ) (b : ℕ) where
   abbrev opened : ℕ
   opened = l .groups .«open»
 
-  pub byte-open : {g : Groups} → opened < 3 → g ≡ afterByte (byteEvent byteVote opened (l .groups) b) (l .groups) b
-      → nowOf (record { layers = layersFrom l g; complete = false }) frame area ≡ byteStep byteVote (stateWith l frame) area b
+  pub byte-open : {g : Groups} → opened < 3 → g ≡ afterByte (byteEvent vote opened (l .groups) b) (l .groups) b
+      → nowOf (record { layers = layersFrom l g; complete = false }) frame area ≡ byteStep vote (stateWith l frame) area b
   unfolding byteStep
-  byte-open h e = rw (e, no-word opened (l .groups) b h)
+  byte-open h e = rw (e, no-word vote opened (l .groups) b h)
 
-  pub byte-closed : {v : Voted} {g : Groups} {n : Now} → 3 ≤ opened → VotePromise (l .groups .first) (l .groups .second) b v
+  pub byte-closed : {v : Voted} {g : Groups} {n : Now} → 3 ≤ opened → VotePromise vote (l .groups .first) (l .groups .second) b v
       → g ≡ afterClosing (v .word) (v .weak) (l .groups) → n ≡ wordStep (some (v .word)) g (stateWith l frame) area
-      → n ≡ byteStep byteVote (stateWith l frame) area b
+      → n ≡ byteStep vote (stateWith l frame) area b
   unfolding byteStep
-  byte-closed h p eg e = e ∙ rw (third-copy opened (l .groups) b h, eg, p .word-is, p .weak-is)
+  byte-closed h p eg e = e ∙ rw (third-copy vote opened (l .groups) b h, eg, p .word-is, p .weak-is)

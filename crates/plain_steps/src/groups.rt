@@ -1,7 +1,7 @@
 // From bytes to words: what a byte does to the first layer.
 ghost use mathlib.Core.Path.{_≡_};
 ghost use Prim.Native.Nat.{_≤_, _<_, _^_};
-ghost use Rattle.labelling.specs.Words.{outside, byteVote};
+ghost use Rattle.labelling.specs.Words.{outside, Vote};
 ghost use Rattle.labelling.specs.Machine.{outer, weaker, afterClosing, afterByte, byteEvent};
 ghost use Rattle.base.specs.Lists.{one};
 ghost use Rattle.order.specs.Room.{GroupsRoom};
@@ -31,11 +31,11 @@ fn outer_byte(g: Groups, b: u8) -> Groups
     next
 }
 
-// A byte that closes no group.
+// A byte that closes no group: whatever the vote is.
 pub(crate) fn open_byte(g: Groups, b: u8) -> Groups
     requires { ⌜ GroupsRoom g ⌝ }
     requires { ⌜ g .«open» < 3 ⌝ }
-    ensures { λ r. ⌜ r ≡ afterByte (byteEvent byteVote (g .«open») g b) g b ⌝ }
+    ensures { λ r. ⌜ ((vote : Vote) → r ≡ afterByte (byteEvent vote (g .«open») g b) g b) ⌝ }
 {
     if g.open == 0 {
         return outer_byte(g, b);

@@ -2,7 +2,7 @@
 ghost use mathlib.Core.Path.{_≡_};
 ghost use mathlib.Core.Bool.{true};
 ghost use mathlib.Core.Option.{some};
-ghost use Rattle.labelling.specs.Words.{byteVote};
+ghost use Rattle.labelling.specs.Votes.{ruleVote};
 ghost use Rattle.labelling.specs.Machine.{wordStep, byteStep};
 ghost use Rattle.labelling.specs.Order.{stateInOrder};
 ghost use Rattle.order.specs.Room.{FramingRoom, RunsRoom};
@@ -65,11 +65,11 @@ fn word_step(l: Layers, w: Word, frame: &mut [u8; 128], area: &mut [u8]) -> Step
     }
 }
 
-// A byte. A leaf for the reader: the state is in order, and what is lent has its length.
-pub fn byte_step(l: Layers, b: u8, frame: &mut [u8; 128], area: &mut [u8]) -> Stepped
+// A byte, by the rule of the tally. A leaf for the reader: the state is in order, and what is lent has its length.
+pub fn byte_step(rule: u64, l: Layers, b: u8, frame: &mut [u8; 128], area: &mut [u8]) -> Stepped
     requires { ⌜ stateInOrder (stateWith l (now frame)) ≡ true ⌝ }
     requires { ⌜ Lent (now frame) (now area) ⌝ }
-    ensures { λ r. ⌜ nowOf r (now (frame .exit)) (now (area .exit)) ≡ byteStep byteVote (stateWith l (now (frame .entry))) (now (area .entry)) b ⌝ }
+    ensures { λ r. ⌜ nowOf r (now (frame .exit)) (now (area .exit)) ≡ byteStep (ruleVote rule) (stateWith l (now (frame .entry))) (now (area .entry)) b ⌝ }
 {
     let mut next = l;
     if l.groups.open < 3 {
@@ -79,7 +79,7 @@ pub fn byte_step(l: Layers, b: u8, frame: &mut [u8; 128], area: &mut [u8]) -> St
             complete: false,
         };
     }
-    let v = votes::vote(l.groups.first, l.groups.second, b);
+    let v = votes::vote_by(rule, l.groups.first, l.groups.second, b);
     let w = v.word;
     next.groups = groups::close_group(l.groups, w, v.weak);
     word_step(next, w, frame, area)

@@ -1,10 +1,15 @@
-// The vote on the three copies of a group, and the copy that it finds weak.
+// The two votes on the three copies of a group, and the copy that they find weak.
 ghost use mathlib.Core.Path.{_≡_};
 ghost use mathlib.Core.Bool.{cond};
 ghost use Prim.Native.Nat.{_≤_};
 ghost use Rattle.base.specs.Lists.{one};
-ghost use Rattle.plain_steps.specs.Shapes.{weakFrom, VotePromise};
+ghost use Rattle.labelling.specs.Words.{byteVote};
+ghost use Rattle.labelling.specs.Votes.{ruleVote};
+ghost use Rattle.plain_steps.specs.Shapes.{weakFrom, VotePromise, BitVotePromise};
 use labelling::Word;
+
+// The rule of the second agreement.
+const BY_BITS: u64 = 2;
 
 pub struct Voted {
     pub word: Word,
@@ -15,7 +20,7 @@ pub struct Voted {
 // The byte that at least two copies have, or an erasure where all three differ; and the weak copy. Which copies agree cannot be foreseen on a
 // reel with a bad head, so that only an erasure is told by a branch.
 pub fn vote(a: u8, b: u8, c: u8) -> Voted
-    ensures { λ r. ⌜ VotePromise a b c r ⌝ }
+    ensures { λ r. ⌜ VotePromise byteVote a b c r ⌝ }
 {
     let ab = a == b;
     let ac = a == c;
@@ -32,6 +37,27 @@ pub fn vote(a: u8, b: u8, c: u8) -> Voted
         word: Word::Erased,
         weak: weak,
     }
+}
+
+// Each bit is the one that at least two copies have; and the weak copy, of which three different copies name none.
+pub fn vote_bits(a: u8, b: u8, c: u8) -> Voted
+    ensures { λ r. ⌜ BitVotePromise a b c r ⌝ }
+{
+    let weak = weak_number(a == b, a == c, b == c);
+    Voted {
+        word: Word::Voted((a & b) | (a & c) | (b & c)),
+        weak: weak,
+    }
+}
+
+// The vote of a rule.
+pub(crate) fn vote_by(rule: u64, a: u8, b: u8, c: u8) -> Voted
+    ensures { λ r. ⌜ VotePromise (ruleVote rule) a b c r ⌝ }
+{
+    if rule == BY_BITS {
+        return vote_bits(a, b, c);
+    }
+    vote(a, b, c)
 }
 
 // The number of the weak copy, from which copies are equal.

@@ -12,7 +12,8 @@ use Rattle.labelling.specs.declared.Framing.{Framing}
 use Rattle.labelling.specs.declared.Groups.{Groups}
 use Rattle.labelling.specs.declared.Runs.{Runs}
 use Rattle.labelling.specs.declared.Word.{Word}
-use Rattle.labelling.specs.Words.{byteVote}
+use Rattle.labelling.specs.Words.{Vote}
+use Rattle.labelling.specs.Votes.{Unanimous}
 use Rattle.labelling.specs.MajorFrames.{value}
 use Rattle.labelling.specs.Machine.{ByteEvent, afterByte, State, Now, wordStep, wordGiven, byteEvent, byteStep}
 use Rattle.labelling.specs.Order.{stateInOrder}
@@ -28,12 +29,12 @@ use Rattle.reader.specs.Onward.{Begun, Moment, restFrom, goesOn, Onward,
 
 -- ---- a byte
 
-frame-byte : (t : State) (a : List ℕ) (b : ℕ) → length (byteStep byteVote t a b .state .frame) ≡ length (t .frame)
+frame-byte : (vote : Vote) (t : State) (a : List ℕ) (b : ℕ) → length (byteStep vote t a b .state .frame) ≡ length (t .frame)
 unfolding byteStep
-frame-byte t a b = go (wordGiven e)
+frame-byte vote t a b = go (wordGiven e)
   where
     e : ByteEvent
-    e = byteEvent byteVote (t .groups .«open») (t .groups) b
+    e = byteEvent vote (t .groups .«open») (t .groups) b
 
     stored : (h : Bool) (w : Word) → length (cond h (t .frame) (set (t .frame) (t .framing .placed) (value w))) ≡ length (t .frame)
     stored true w = refl
@@ -48,44 +49,45 @@ abbrev after : ℕ → Now → Moment
 after i n = record { at = i + 1; state = n .state; area = n .area }
 
 -- the byte at m leaves n
-pub now-onward : {p : List ℕ} {m : Moment} {n : Now} → n ≡ byteStep byteVote (m .state) (m .area) (getD p (m .at) 0) → Begun p (m .at) (m .state)
-    → m .at < length p → Onward p m (after (m .at) n) (n .complete)
-now-onward {p} {m} {n} e b h =
+pub now-onward : {vote : Vote} {p : List ℕ} {m : Moment} {n : Now} → n ≡ byteStep vote (m .state) (m .area) (getD p (m .at) 0) → Begun p (m .at) (m .state)
+    → m .at < length p → Onward vote p m (after (m .at) n) (n .complete)
+now-onward {vote} {p} {m} {n} e b h =
     let t = m .state in
     let x = getD p (m .at) 0 in
-    let more : byteStep byteVote t (m .area) x .state .groups .bytes ≡ t .groups .bytes + 1 = bytes-byte byteVote t (m .area) x in
+    let more : byteStep vote t (m .area) x .state .groups .bytes ≡ t .groups .bytes + 1 = bytes-byte vote t (m .area) x in
     let bytes : n .state .groups .bytes ≡ t .groups .bytes + 1 = ap (λ (y : Now). y .state .groups .bytes) e ∙ more in
-    let still = in-order (byteStep byteVote t (m .area) x .state) (ordered-byte byteVote t (m .area) x (ordered t (b .order))) (omega arith) in
+    let still = in-order (byteStep vote t (m .area) x .state) (ordered-byte vote t (m .area) x (ordered t (b .order))) (omega arith) in
     record {
       rest = go (n .complete) refl;
       order = ap (λ (y : Now). stateInOrder (y .state)) e ∙ still;
       bytes-are = omega arith;
       forward = omega arith;
       within = omega arith;
-      frame-length = ap (λ (y : Now). length (y .state .frame)) e ∙ frame-byte t (m .area) x ∙ b .frame-length;
+      frame-length = ap (λ (y : Now). length (y .state .frame)) e ∙ frame-byte vote t (m .area) x ∙ b .frame-length;
     }
   where
     leads : Bool → Now → Type 0
-    leads c y = y .complete ≡ c → restFrom p m ≡ goesOn c p (after (m .at) y)
+    leads c y = y .complete ≡ c → restFrom vote p m ≡ goesOn vote c p (after (m .at) y)
 
     go : (c : Bool) → leads c n
-    go true = subst (leads true) (sym e) (loop-complete byteVote (m .state) (m .area) p (m .at) h)
-    go false = subst (leads false) (sym e) (loop-more byteVote (m .state) (m .area) p (m .at) h)
+    go true = subst (leads true) (sym e) (loop-complete vote (m .state) (m .area) p (m .at) h)
+    go false = subst (leads false) (sym e) (loop-more vote (m .state) (m .area) p (m .at) h)
 
 -- ---- plain steps
 
-module _ {p a : List ℕ} where
-  plain-inside : {i j : ℕ} {t u : State} → PlainSteps p a i t j u → i ≤ length p → (i ≤ j) × (j ≤ length p)
+module _ {vote : Vote} {p a : List ℕ} where
+  plain-inside : {i j : ℕ} {t u : State} → PlainSteps vote p a i t j u → i ≤ length p → (i ≤ j) × (j ≤ length p)
   plain-inside stays h = (omega arith, h)
   plain-inside (byte l e n) h = let r = plain-inside n (omega arith) in (omega (arith, r .0), r .1)
 
-  plain-frame : {i j : ℕ} {t u : State} → PlainSteps p a i t j u → length (u .frame) ≡ length (t .frame)
+  plain-frame : {i j : ℕ} {t u : State} → PlainSteps vote p a i t j u → length (u .frame) ≡ length (t .frame)
   plain-frame stays = refl
-  plain-frame {i} {t = t} (byte l e n) = plain-frame n ∙ sym (ap (λ (x : Now). length (x .state .frame)) e) ∙ frame-byte t a (getD p i 0)
+  plain-frame {i} {t = t} (byte l e n) = plain-frame n ∙ sym (ap (λ (x : Now). length (x .state .frame)) e) ∙ frame-byte vote t a (getD p i 0)
 
-pub plain-onward : {p : List ℕ} {i j : ℕ} {t u : State} → ((a : List ℕ) → PlainSteps p a i t j u) → Begun p i t → Reaches p i t j u
-plain-onward {u = u} s b a =
-    let n = s a in
+pub plain-onward : {p : List ℕ} {i j : ℕ} {t u : State} → ((vote : Vote) → Unanimous vote → (a : List ℕ) → PlainSteps vote p a i t j u) → Begun p i t
+    → Reaches p i t j u
+plain-onward {u = u} s b vote same a =
+    let n = s vote same a in
     let bytes = plain-bytes n in
     let inside = plain-inside n (b .fits .inside) in
     record {
@@ -100,9 +102,9 @@ plain-onward {u = u} s b a =
 -- ---- one part after another
 
 pub none-onward : {p : List ℕ} {i : ℕ} {t : State} → Begun p i t → Reaches p i t i t
-none-onward b = plain-onward (λ a. stays) b
+none-onward b = plain-onward (λ vote same a. stays) b
 
-pub onward-join : {p : List ℕ} {m n o : Moment} {c : Bool} → Onward p m n false → Onward p n o c → Onward p m o c
+pub onward-join : {vote : Vote} {p : List ℕ} {m n o : Moment} {c : Bool} → Onward vote p m n false → Onward vote p n o c → Onward vote p m o c
 onward-join g h = record {
   rest = g .rest ∙ h .rest;
   order = h .order;
@@ -113,14 +115,15 @@ onward-join g h = record {
 }
 
 -- a part that completes a major frame ends the call; the call goes on after any other
-pub onward-ends : {p : List ℕ} {m n : Moment} {c : Bool} → Onward p m n c → c ≡ true → restFrom p m ≡ goesOn true p n
-onward-ends {p} {n = n} g e = g .rest ∙ ap (λ (b : Bool). goesOn b p n) e
+pub onward-ends : {vote : Vote} {p : List ℕ} {m n : Moment} {c : Bool} → Onward vote p m n c → c ≡ true → restFrom vote p m ≡ goesOn vote true p n
+onward-ends {vote} {p} {n = n} g e = g .rest ∙ ap (λ (b : Bool). goesOn vote b p n) e
 
-pub onward-more : {p : List ℕ} {m n o : Moment} {c : Bool} → Onward p m n false → Onward p n o c → c ≡ false → Onward p m o false
-onward-more {p} {m} {o = o} g h e = subst (λ (b : Bool). Onward p m o b) e (onward-join g h)
+pub onward-more : {vote : Vote} {p : List ℕ} {m n o : Moment} {c : Bool} → Onward vote p m n false → Onward vote p n o c → c ≡ false
+    → Onward vote p m o false
+onward-more {vote} {p} {m} {o = o} g h e = subst (λ (b : Bool). Onward vote p m o b) e (onward-join g h)
 
 -- what the next part finds
-pub onward-begun : {p : List ℕ} {m n : Moment} {c : Bool} → Onward p m n c → Begun p (m .at) (m .state) → Begun p (n .at) (n .state)
+pub onward-begun : {vote : Vote} {p : List ℕ} {m n : Moment} {c : Bool} → Onward vote p m n c → Begun p (m .at) (m .state) → Begun p (n .at) (n .state)
 onward-begun g b = record {
   order = g .order;
   fits = record { inside = g .within; limit = omega (arith, g .bytes-are, g .forward, g .within, b .fits .limit) };
@@ -199,21 +202,21 @@ module _ {l : Layers} {frame p : List ℕ} {i : ℕ} (b : Begun p i (stateWith l
     place-onward s h r e =
         rw (e, s .frame-is)
         (plain-onward
-        (λ a. placed-plain {a = a} (s .stretch) t record { closed = closed; places = h; room = omega (arith, s .place-is, s .room r) }) b)
+        (λ vote same a. placed-plain same {a = a} (s .stretch) t record { closed = closed; places = h; room = omega (arith, s .place-is, s .room r) }) b)
 
     pub hunt-onward : {j w x : ℕ} (s : Hunted p i j w x) {g : Groups} → l .framing .hunting ≡ true → l .framing .matched ≡ 0
         → g ≡ withWords (l .groups) (j - i) (s .words) → Reaches p i t j (stateWith (layersOf g (withHunted (l .framing) w) (l .runs)) frame)
     hunt-onward s h m e =
         rw (e, s .count-is)
         (plain-onward
-        (λ a. hunted-plain {a = a} (s .stretch) t record { closed = closed; hunts = h; unmatched = m; none-begins = s .none-begins }) b)
+        (λ vote same a. hunted-plain same {a = a} (s .stretch) t record { closed = closed; hunts = h; unmatched = m; none-begins = s .none-begins }) b)
 
     pub quiet-onward : {j k : ℕ} {g : Groups} → Quiet p i j k → g ≡ withQuiet (l .groups) (j - i) k
         → Reaches p i t j (stateWith (layersOf g (l .framing) (l .runs)) frame)
-    quiet-onward q e = rw e (plain-onward (λ a. quiet-plain {a = a} q t closed) b)
+    quiet-onward q e = rw e (plain-onward (λ vote same a. quiet-plain q t closed) b)
 
     -- and then SYNC and two copies
     pub opened-onward : {j k x y : ℕ} {g : Groups} → Quiet p i j k → Byte p j SYNC → Byte p (j + 1) x → Byte p (j + 2) y
         → g ≡ withQuiet (l .groups) (j - i) k → Reaches p i t (j + 3) (stateWith (layersOf (opened g x y) (l .framing) (l .runs)) frame)
     opened-onward {j} {k} q sync x y e =
-        rw e (plain-onward (λ a. plain-join (quiet-plain {a = a} q t closed) (group-opens (afterQuiet t (j - i) k) closed sync x y)) b)
+        rw e (plain-onward (λ vote same a. plain-join (quiet-plain q t closed) (group-opens (afterQuiet t (j - i) k) closed sync x y)) b)

@@ -7,7 +7,8 @@ use lib.ListN.{length, drop}
 use Rattle.base.specs.Format.{minorFrame}
 use Rattle.labelling.specs.declared.Groups.{Groups}
 use Rattle.labelling.specs.Machine.{State}
-use Rattle.labelling.specs.Words.{byteVote}
+use Rattle.labelling.specs.Words.{Vote}
+use Rattle.labelling.specs.Votes.{ruleVote, Unanimous}
 use Rattle.labelling.specs.Order.{stateInOrder}
 use Rattle.labelling.specs.Calls.{Progress, plus, feed}
 use Rattle.nominal.specs.Stretches.{lastOr}
@@ -42,36 +43,37 @@ from i l frame area = record { at = i; state = stateWith l frame; area = area }
 abbrev pub ranTo : Ran → List ℕ → List ℕ → Moment
 ranTo r frame area = from (r .at) (r .layers) frame area
 
--- the whole piece, from m
-abbrev pub fed : List ℕ → Moment → Progress
-fed p m = feed byteVote (m .state) (m .area) p
+-- the whole piece, from m, by a rule
+abbrev pub fed : ℕ → List ℕ → Moment → Progress
+fed rule p m = feed (ruleVote rule) (m .state) (m .area) p
 
 -- the call goes on from m
-abbrev pub restFrom : List ℕ → Moment → Progress
-restFrom p m = plus (m .at) (feed byteVote (m .state) (m .area) (drop (m .at) p))
+abbrev pub restFrom : Vote → List ℕ → Moment → Progress
+restFrom vote p m = plus (m .at) (feed vote (m .state) (m .area) (drop (m .at) p))
 
 -- the call ends at m where a major frame is complete, and goes on there where none is
-abbrev pub goesOn : Bool → List ℕ → Moment → Progress
-goesOn true p m = record { state = m .state; area = m .area; taken = m .at; complete = true }
-goesOn false p m = restFrom p m
+abbrev pub goesOn : Vote → Bool → List ℕ → Moment → Progress
+goesOn vote true p m = record { state = m .state; area = m .area; taken = m .at; complete = true }
+goesOn vote false p m = restFrom vote p m
 
--- a part of a call of the piece p leads from m to n
-pub record Onward (p : List ℕ) (m n : Moment) (complete : Bool) : Type 0 where
-  pub rest : restFrom p m ≡ goesOn complete p n
+-- under a vote, a part of a call of the piece p leads from m to n
+pub record Onward (vote : Vote) (p : List ℕ) (m n : Moment) (complete : Bool) : Type 0 where
+  pub rest : restFrom vote p m ≡ goesOn vote complete p n
   pub order : stateInOrder (n .state) ≡ true
   pub bytes-are : n .state .groups .bytes + m .at ≡ m .state .groups .bytes + n .at
   pub forward : m .at ≤ n .at
   pub within : n .at ≤ length p
   pub frame-length : length (n .state .frame) ≡ minorFrame
 
--- a part leads from m to what the run r leaves, and takes a byte or more
-pub record Ahead (p : List ℕ) (m : Moment) (r : Ran) (frame area : List ℕ) : Type 0 where
-  pub onward : Onward p m (ranTo r frame area) (r .complete)
+-- by a rule, a part leads from m to what the run r leaves, and takes a byte or more
+pub record Ahead (rule : ℕ) (p : List ℕ) (m : Moment) (r : Ran) (frame area : List ℕ) : Type 0 where
+  pub onward : Onward (ruleVote rule) p m (ranTo r frame area) (r .complete)
   pub moves : m .at < r .at
 
--- a stretch leads from t at i to u at j: nothing is complete, and no area is written
+-- a stretch leads from t at i to u at j under every vote that gives three equal copies their word: nothing is complete, and no area is written
 abbrev pub Reaches : List ℕ → ℕ → State → ℕ → State → Type 0
-Reaches p i t j u = (a : List ℕ) → Onward p (record { at = i; state = t; area = a }) (record { at = j; state = u; area = a }) false
+Reaches p i t j u =
+    (vote : Vote) → Unanimous vote → (a : List ℕ) → Onward vote p (record { at = i; state = t; area = a }) (record { at = j; state = u; area = a }) false
 
 -- the same of the layers alone: no frame is written
 abbrev pub ReachesAnyFrame : List ℕ → ℕ → Layers → ℕ → Layers → Type 0

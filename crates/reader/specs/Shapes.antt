@@ -5,7 +5,6 @@ use mathlib.Core.List.{List}
 use Prim.Native.Nat.{ℕ, _≤_, _<_}
 use lib.ListN.{length}
 use Rattle.labelling.specs.declared.Tally.{Tally}
-use Rattle.labelling.specs.Words.{byteVote}
 use Rattle.labelling.specs.Order.{inOrder}
 use Rattle.labelling.specs.Calls.{TakeCall, takeRefusal, Answer, Progress, answer, DutyCall, dutyRefusal, dutyAnswer}
 use Rattle.plain_steps.specs.Shapes.{stateWith}
@@ -30,7 +29,7 @@ refusedWith t n = record { refusal = n; taken = 0; complete = false; tally = t }
 -- `take` of the call c answers r and leaves the area
 pub record TakePromise (c : TakeCall) (r : Taken) (area : List ℕ) : Type 0 where
   pub refusal-is : r .refusal ≡ takeRefusal c
-  pub answer-is : answerOf r area ≡ answer byteVote c
+  pub answer-is : answerOf r area ≡ answer c
   -- all of the piece is taken, or some of it where a major frame is complete
   pub within : r .taken ≤ length (c .piece)
   pub takes-all : r .refusal ≡ 0 → r .complete ≡ false → r .taken ≡ length (c .piece)

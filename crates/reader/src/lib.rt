@@ -1,5 +1,5 @@
 // Reads an unpacked PCD stream in pieces: voted words, minor frames, major frames, and a tally of every byte (paper 01, "From bytes to
-// words" to "The tally and one call"; paper 02, request 5). The claim about every list of calls is the contract of `fresh`.
+// words" to "The tally and one call"; paper 02, requests 5 and 6). The claim about every list of calls is the contract of `fresh`.
 mod duty;
 mod run;
 mod stretch;
@@ -9,13 +9,13 @@ ghost use mathlib.Core.Bool.{true};
 ghost use Prim.Native.Nat.{_+_, _≤_, _^_};
 ghost use lib.ListN.{length};
 ghost use Rattle.base.specs.Format.{majorFrame};
-ghost use Rattle.labelling.specs.Words.{byteVote};
 ghost use Rattle.labelling.specs.Once.{FreshPromise};
 ghost use Rattle.labelling.specs.Order.{inOrder};
-ghost use Rattle.labelling.specs.Machine.{tallyOf};
+ghost use Rattle.labelling.specs.Machine.{tallyOf, fresh as freshOf};
 ghost use Rattle.plain_steps.specs.Shapes.{stateWith};
 ghost use Rattle.reader.specs.Shapes.{callOf, refusedWith, TakePromise};
 use base::format::MAJOR_FRAME;
+use base::refusal::NO_SUCH_RULE;
 use base::refusal::NOT_IN_ORDER;
 use base::refusal::TOO_MANY_BYTES;
 use base::refusal::WRONG_LENGTH;
@@ -32,6 +32,7 @@ pub use order::in_order;
 use plain_steps::Layers;
 pub use plain_steps::Voted;
 pub use plain_steps::vote;
+pub use plain_steps::vote_bits;
 
 // The answer of a call.
 pub struct Taken {
@@ -44,10 +45,33 @@ pub struct Taken {
     pub tally: Tally,
 }
 
-// A tally of no bytes, with operator 0 on duty. What it promises is demand 3: over every list of calls of `take` and `change_duty` that begins
-// with it, each major frame of the bytes is paid exactly once, to whoever was on duty, and each count is that of the labelling of the bytes.
-pub fn fresh() -> Tally
-    ensures { λ r. ⌜ FreshPromise byteVote r ⌝ }
+// The answer where a fresh tally is asked for.
+pub struct FreshTally {
+    // 0, or the number of the refusal: there is no such rule. The tally is then that of rule 1.
+    pub refusal: u8,
+    pub tally: Tally,
+}
+
+// A tally of no bytes, with operator 0 on duty, that votes by this rule: 1, by bytes, or 2, by bits. What it promises is demand 3: over every list
+// of calls of `take` and `change_duty` that begins with it, each major frame of the bytes is paid exactly once, to whoever was on duty, and each
+// count is that of the labelling of the bytes.
+pub fn fresh(rule: u64) -> FreshTally
+    ensures { λ r. ⌜ FreshPromise rule (r .refusal) (r .tally) ⌝ }
+{
+    if (rule == 1) | (rule == 2) {
+        return FreshTally {
+            refusal: 0,
+            tally: blank(rule),
+        };
+    }
+    FreshTally {
+        refusal: NO_SUCH_RULE,
+        tally: blank(1),
+    }
+}
+
+fn blank(rule: u64) -> Tally
+    ensures { λ r. ⌜ r ≡ freshOf rule ⌝ }
 {
     Tally {
         groups: Groups {
@@ -85,6 +109,7 @@ pub fn fresh() -> Tally
             paid: [0u64; 8],
             duty: 0,
         },
+        rule: rule,
         frame: [0u8; 128],
     }
 }
@@ -131,10 +156,10 @@ fn accepted(t: Tally, piece: &[u8], area: &mut [u8]) -> Taken
         framing: framing,
         runs: runs,
     };
-    let r = run::run(layers, piece, &mut frame, area);
+    let r = run::run(t.rule, layers, piece, &mut frame, area);
     let left = r.layers;
     let operators = duty::booked(t.operators, r.complete);
-    let tally = together(left, operators, frame);
+    let tally = together(left, operators, t.rule, frame);
     Taken {
         refusal: 0,
         taken: r.at,
@@ -143,8 +168,8 @@ fn accepted(t: Tally, piece: &[u8], area: &mut [u8]) -> Taken
     }
 }
 
-fn together(l: Layers, operators: Operators, frame: [u8; 128]) -> Tally
-    ensures { λ r. ⌜ r ≡ tallyOf operators (stateWith l frame) ⌝ }
+fn together(l: Layers, operators: Operators, rule: u64, frame: [u8; 128]) -> Tally
+    ensures { λ r. ⌜ r ≡ tallyOf rule operators (stateWith l frame) ⌝ }
 {
     let groups = l.groups;
     let framing = l.framing;
@@ -154,6 +179,7 @@ fn together(l: Layers, operators: Operators, frame: [u8; 128]) -> Tally
         framing: framing,
         runs: runs,
         operators: operators,
+        rule: rule,
         frame: frame,
     }
 }

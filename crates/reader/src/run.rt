@@ -16,12 +16,19 @@ pub(crate) struct Ran {
     pub(crate) complete: bool,
 }
 
-// One byte of the piece.
-fn one_byte(l: Layers, piece: &[u8], at: usize, frame: &mut [u8; 128], area: &mut [u8]) -> Ran
+// One byte of the piece, by the rule of the tally.
+fn one_byte(
+    rule: u64,
+    l: Layers,
+    piece: &[u8],
+    at: usize,
+    frame: &mut [u8; 128],
+    area: &mut [u8],
+) -> Ran
     requires { ⌜ Begun (now piece) at (stateWith l (now frame)) × (at < length (now piece)) × (length (now area) ≡ majorFrame) ⌝ }
-    ensures { λ r. ⌜ Ahead (now (piece .entry)) (from at l (now (frame .entry)) (now (area .entry))) r (now (frame .exit)) (now (area .exit)) ⌝ }
+    ensures { λ r. ⌜ Ahead rule (now (piece .entry)) (from at l (now (frame .entry)) (now (area .entry))) r (now (frame .exit)) (now (area .exit)) ⌝ }
 {
-    let s = plain_steps::byte_step(l, piece[at], frame, area);
+    let s = plain_steps::byte_step(rule, l, piece[at], frame, area);
     let left = s.layers;
     Ran {
         layers: left,
@@ -31,9 +38,16 @@ fn one_byte(l: Layers, piece: &[u8], at: usize, frame: &mut [u8; 128], area: &mu
 }
 
 // A stretch, and the byte after it, by the plain step: so all that closes a frame goes one way.
-fn advance(l: Layers, piece: &[u8], at: usize, frame: &mut [u8; 128], area: &mut [u8]) -> Ran
+fn advance(
+    rule: u64,
+    l: Layers,
+    piece: &[u8],
+    at: usize,
+    frame: &mut [u8; 128],
+    area: &mut [u8],
+) -> Ran
     requires { ⌜ Begun (now piece) at (stateWith l (now frame)) × (at < length (now piece)) × (length (now area) ≡ majorFrame) ⌝ }
-    ensures { λ r. ⌜ Ahead (now (piece .entry)) (from at l (now (frame .entry)) (now (area .entry))) r (now (frame .exit)) (now (area .exit)) ⌝ }
+    ensures { λ r. ⌜ Ahead rule (now (piece .entry)) (from at l (now (frame .entry)) (now (area .entry))) r (now (frame .exit)) (now (area .exit)) ⌝ }
 {
     let r = stretch::reach(l, piece, at, frame);
     let next = r.layers;
@@ -44,18 +58,18 @@ fn advance(l: Layers, piece: &[u8], at: usize, frame: &mut [u8; 128], area: &mut
             complete: false,
         };
     }
-    one_byte(next, piece, r.at, frame, area)
+    one_byte(rule, next, piece, r.at, frame, area)
 }
 
 // A piece from its first byte on.
-pub(crate) fn run(l: Layers, piece: &[u8], frame: &mut [u8; 128], area: &mut [u8]) -> Ran
+pub(crate) fn run(rule: u64, l: Layers, piece: &[u8], frame: &mut [u8; 128], area: &mut [u8]) -> Ran
     requires { ⌜ Begun (now piece) 0 (stateWith l (now frame)) × (length (now area) ≡ majorFrame) ⌝ }
-    ensures { λ r. ⌜ ranOf r (now (frame .exit)) (now (area .exit)) ≡ fed (now (piece .entry)) (from 0 l (now (frame .entry)) (now (area .entry))) ⌝ }
+    ensures { λ r. ⌜ ranOf r (now (frame .exit)) (now (area .exit)) ≡ fed rule (now (piece .entry)) (from 0 l (now (frame .entry)) (now (area .entry))) ⌝ }
 {
     let mut next = l;
     let mut i: usize = 0;
     while i < piece.len() {
-        let s = advance(next, piece, i, frame, area);
+        let s = advance(rule, next, piece, i, frame, area);
         next = s.layers;
         i = s.at;
         if s.complete {

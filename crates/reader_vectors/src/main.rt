@@ -43,7 +43,7 @@ fn main() {
 
 // Reads a record and runs it; false at the end of the input.
 fn turn() -> bool {
-    let mut header = [0u8; 100];
+    let mut header = [0u8; 108];
     if !filled(&mut header) {
         return false;
     }
@@ -57,40 +57,42 @@ fn turn() -> bool {
         return false;
     }
     let s = shifts::begun(&header[36..100]);
-    every_cut(stream, &header[4..36], s);
+    let rule = number(&header[100..108]);
+    every_cut(stream, &header[4..36], s, rule);
     true
 }
 
-// Reads the stream in pieces of each of these eight lengths.
-fn every_cut(stream: &[u8], lengths: &[u8], s: Shifts)
+// Reads the stream by the rule in pieces of each of these eight lengths.
+fn every_cut(stream: &[u8], lengths: &[u8], s: Shifts, rule: u64)
     requires { ⌜ 32 ≤ length (now lengths) ⌝ }
 {
-    one_cut(stream, &lengths[0..4], s);
-    one_cut(stream, &lengths[4..8], s);
-    one_cut(stream, &lengths[8..12], s);
-    one_cut(stream, &lengths[12..16], s);
-    one_cut(stream, &lengths[16..20], s);
-    one_cut(stream, &lengths[20..24], s);
-    one_cut(stream, &lengths[24..28], s);
-    one_cut(stream, &lengths[28..32], s);
+    one_cut(stream, &lengths[0..4], s, rule);
+    one_cut(stream, &lengths[4..8], s, rule);
+    one_cut(stream, &lengths[8..12], s, rule);
+    one_cut(stream, &lengths[12..16], s, rule);
+    one_cut(stream, &lengths[16..20], s, rule);
+    one_cut(stream, &lengths[20..24], s, rule);
+    one_cut(stream, &lengths[24..28], s, rule);
+    one_cut(stream, &lengths[28..32], s, rule);
 }
 
 // Reads the stream in pieces of this length; 0 is no length.
-fn one_cut(stream: &[u8], length: &[u8], s: Shifts) {
+fn one_cut(stream: &[u8], length: &[u8], s: Shifts, rule: u64) {
     let piece = number(length) as usize;
     if piece == 0 {
         return;
     }
-    report::heading(stream.len(), piece);
+    let begun = reader::fresh(rule);
+    report::heading(stream.len(), piece, rule, begun.refusal);
     let mut space = [0u8; 16384];
     let area: &mut [u8] = &mut space;
-    let r = read_stream(fresh(s), stream, piece, &mut *area);
+    let r = read_stream(from_tally(begun.tally, s), stream, piece, &mut *area);
     report::whole(r, area);
 }
 
-fn fresh(s: Shifts) -> Reading {
+fn from_tally(t: Tally, s: Shifts) -> Reading {
     Reading {
-        tally: reader::fresh(),
+        tally: t,
         calls: 0,
         answers: 0,
         refused: 0,

@@ -9,9 +9,12 @@ use vectors::checksum;
 use vectors::field;
 use vectors::put;
 
-pub(crate) fn heading(length: usize, piece: usize) {
+// Which rule was asked for, and whether that was refused.
+pub(crate) fn heading(length: usize, piece: usize, rule: u64, refusal: u8) {
     field(b"stream of ", length as u64);
     field(b" bytes in pieces of ", piece as u64);
+    field(b" by rule ", rule);
+    field(b" refused ", wide(refusal));
     put(b"\n");
 }
 
@@ -29,7 +32,7 @@ pub(crate) fn whole(r: Reading, area: &[u8]) {
     groups(t);
     framing(t);
     runs(t);
-    paid_to(t.operators);
+    paid_to(t.operators, t.rule);
     kept(t);
     field(b"area ", checksum(area));
     field(b" calls ", r.calls);
@@ -45,8 +48,8 @@ fn counted(s: Shifts, refused: u64) {
     field(b" refused 14: ", s.refused);
 }
 
-// The operators' counts, and who is on duty.
-fn paid_to(o: Operators) {
+// The operators' counts, who is on duty, and the rule.
+fn paid_to(o: Operators, rule: u64) {
     let p = o.paid;
     field(b"paid to ", p[0]);
     field(b" ", p[1]);
@@ -57,6 +60,7 @@ fn paid_to(o: Operators) {
     field(b" ", p[6]);
     field(b" ", p[7]);
     field(b" duty ", o.duty);
+    field(b" rule ", rule);
     put(b"\n");
 }
 

@@ -1,14 +1,16 @@
 // The reader at its edges: the limit of 2^40 bytes, the order of the refusals, and each clause of 'in order' (paper 01, "The tally and one
-// call" and "Refusal numbers"; paper 02, requests 2 and 5). The file stdout was written by hand from the papers, not taken from a run.
+// call" and "Refusal numbers"; paper 02, requests 2, 5 and 6). The file stdout was written by hand from the papers, not taken from a run.
 //
 // A line says what a call answers: the refusal, the bytes taken, whether a major frame is complete, the bytes of the tally that comes back,
 // whether that is the tally that went in, and how many bytes of the area the call changed. Of a change of duty it says the refusal, who is on duty
 // then, whether that is the tally that went in, and whether it is but for who is on duty.
 mod operators;
+mod rules;
 mod show;
 
 use labelling::Tally;
 use labelling::Weak;
+use rules::fresh;
 use show::call;
 use show::grouped;
 use vectors::put;
@@ -69,11 +71,12 @@ fn main() {
     free();
     weak_counted();
     operators::all();
+    rules::all();
 }
 
 fn limit() {
     put(b"The limit of 2^40 bytes\n");
-    let mut t = reader::fresh();
+    let mut t = fresh(1);
     t.groups.bytes = THREE_LESS;
     t.groups.fill = THREE_LESS;
     call(b"3 bytes below the limit, 4 bytes", t, 4, AREA);
@@ -107,7 +110,7 @@ pub(crate) fn one_short(t: Tally) -> Tally {
 
 // One byte below the limit, and one byte short of a major frame.
 fn last_byte() {
-    let mut t = one_short(reader::fresh());
+    let mut t = one_short(fresh(1));
     t.groups.bytes = ONE_LESS;
     t.groups.fill = LEFT_FOR_FILL;
     call(
@@ -129,7 +132,7 @@ fn last_byte() {
 // A tally that is not in order.
 fn order() {
     put(b"The order of the refusals\n");
-    let mut t = reader::fresh();
+    let mut t = fresh(1);
     t.groups.bytes = LIMIT;
     t.groups.fill = LIMIT;
     t.framing.matched = 3;
@@ -140,7 +143,7 @@ fn order() {
 }
 
 fn order_in_order() {
-    let mut t = reader::fresh();
+    let mut t = fresh(1);
     t.groups.bytes = LIMIT;
     t.groups.fill = LIMIT;
     call(b"a byte too little area, too long", t, 1, 16383);
@@ -159,7 +162,7 @@ pub(crate) fn asked(name: &[u8], t: Tally) {
 
 fn limits_of_counts() {
     put(b"Each count is at most 2^40\n");
-    let mut t = reader::fresh();
+    let mut t = fresh(1);
     t.groups.bytes = LIMIT;
     t.groups.fill = LIMIT;
     asked(b"bytes and fill 2^40", t);
@@ -177,7 +180,7 @@ fn limits_of_counts() {
 
 // Counts of words and frames whose bytes come to 2^40, and to one group more.
 fn counts_together() {
-    let mut t = reader::fresh();
+    let mut t = fresh(1);
     t.groups.bytes = LIMIT;
     t.groups.voted = P38;
     t.framing.hunted = P38;
@@ -195,7 +198,7 @@ fn counts_together() {
 
 // Counts far above the limit, by which a sum modulo 2^64 would hold.
 fn wrapping_groups() {
-    let mut t = reader::fresh();
+    let mut t = fresh(1);
     t.groups.fill = P63;
     t.groups.stray = P63;
     asked(b"bytes 0, fill and stray 2^63", t);
@@ -210,7 +213,7 @@ fn wrapping_groups() {
 }
 
 fn wrapping_frames() {
-    let mut t = reader::fresh();
+    let mut t = fresh(1);
     t.framing.damaged = P57;
     asked(b"no word, damaged 2^57", t);
     t.framing.damaged = 0;
@@ -232,7 +235,7 @@ fn wrapping_frames() {
 
 fn bytes_sum() {
     put(b"bytes = fill + stray + 4 * voted + 4 * split + open\n");
-    let mut t = reader::fresh();
+    let mut t = fresh(1);
     t.groups.fill = 10;
     t.groups.stray = 20;
     t.groups.voted = 2;
@@ -249,7 +252,7 @@ fn bytes_sum() {
 
 fn words_sum() {
     put(b"voted + split = hunted + 128 * (good + damaged + unsynced) + placed\n");
-    let mut t = reader::fresh();
+    let mut t = fresh(1);
     t.groups.bytes = 1592;
     t.groups.voted = 300;
     t.groups.split = 98;
@@ -269,7 +272,7 @@ fn words_sum() {
 
 fn frames_sum() {
     put(b"good = 128 * majors + broken + loose + building\n");
-    let mut t = reader::fresh();
+    let mut t = fresh(1);
     t.groups.bytes = 68620;
     t.groups.voted = 17155;
     t.framing.hunting = false;
@@ -289,7 +292,7 @@ fn frames_sum() {
 
 fn weak_sum() {
     put(b"weak1 + weak2 + weak3 is at most voted\n");
-    let mut t = reader::fresh();
+    let mut t = fresh(1);
     t.groups.bytes = 52;
     t.groups.voted = 10;
     t.groups.split = 3;
@@ -301,7 +304,7 @@ fn weak_sum() {
 }
 
 fn weak_sum_at_the_limit() {
-    let mut t = reader::fresh();
+    let mut t = fresh(1);
     t.groups.bytes = LIMIT;
     t.groups.voted = P38;
     t.framing.hunted = P38;
@@ -310,7 +313,7 @@ fn weak_sum_at_the_limit() {
 }
 
 fn weak_limits() {
-    let mut t = reader::fresh();
+    let mut t = fresh(1);
     t.groups.bytes = LIMIT;
     t.groups.voted = P38;
     t.framing.hunted = P38;
@@ -321,7 +324,7 @@ fn weak_limits() {
 
 // Weak counts far above the limit, two of them or one, whose sum modulo 2^64 is 0.
 fn wrapping_weak() {
-    let t = reader::fresh();
+    let t = fresh(1);
     asked_weak(b"no group, weak1 and weak2 2^63", t, weak(P63, P63, 0));
     asked_weak(b"no group, weak2 and weak3 2^63", t, weak(0, P63, P63));
     asked_weak(b"no group, weak1 and weak3 2^63", t, weak(P63, 0, P63));
@@ -349,7 +352,7 @@ fn weak(first: u64, second: u64, third: u64) -> Weak {
 
 fn open() {
     put(b"open is at most 3\n");
-    let mut t = reader::fresh();
+    let mut t = fresh(1);
     t.groups.bytes = 3;
     t.groups.open = 3;
     asked(b"open 3", t);
@@ -360,7 +363,7 @@ fn open() {
 
 fn placed() {
     put(b"placed is at most 127\n");
-    let mut t = reader::fresh();
+    let mut t = fresh(1);
     t.groups.bytes = 520;
     t.groups.voted = 130;
     t.framing.hunting = false;
@@ -375,7 +378,7 @@ fn placed() {
 
 fn building() {
     put(b"building is at most 127\n");
-    let mut t = reader::fresh();
+    let mut t = fresh(1);
     t.groups.bytes = 65036;
     t.groups.voted = 16259;
     t.framing.hunting = false;
@@ -392,7 +395,7 @@ fn building() {
 
 fn matched() {
     put(b"the match is at most 2, and 0 out of hunting\n");
-    let mut t = reader::fresh();
+    let mut t = fresh(1);
     t.groups.bytes = 12;
     t.groups.voted = 3;
     t.framing.hunted = 3;
@@ -409,7 +412,7 @@ fn matched() {
 
 fn hunting() {
     put(b"placed and building are 0 while hunting\n");
-    let mut t = reader::fresh();
+    let mut t = fresh(1);
     t.groups.bytes = 4;
     t.groups.voted = 1;
     t.framing.placed = 1;
@@ -431,7 +434,7 @@ fn hunting() {
 
 fn hole() {
     put(b"no hole is marked when placed is 0\n");
-    let mut t = reader::fresh();
+    let mut t = fresh(1);
     t.framing.hunting = false;
     t.framing.erasure = true;
     asked(b"a hole, placed 0", t);
@@ -445,7 +448,7 @@ fn hole() {
 
 fn free() {
     put(b"nothing is asked of the copies and the frame\n");
-    let mut t = reader::fresh();
+    let mut t = fresh(1);
     t.groups.first = 0xFF;
     t.groups.second = 0xFE;
     t.frame = [0xFDu8; 128];
@@ -454,7 +457,7 @@ fn free() {
 
 fn weak_counted() {
     put(b"a voted group counts the copy that disagrees, a split counts none\n");
-    let a = grouped(b"16 07 07 07", reader::fresh(), &[0x16u8, 7, 7, 7]);
+    let a = grouped(b"16 07 07 07", fresh(1), &[0x16u8, 7, 7, 7]);
     let b = grouped(b"16 08 07 07", a, &[0x16u8, 8, 7, 7]);
     let c = grouped(b"16 07 08 07", b, &[0x16u8, 7, 8, 7]);
     let d = grouped(b"16 07 07 08", c, &[0x16u8, 7, 7, 8]);

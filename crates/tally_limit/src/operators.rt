@@ -9,6 +9,7 @@ use crate::P38;
 use crate::P63;
 use crate::asked;
 use crate::one_short;
+use crate::rules::fresh;
 use crate::show::call;
 use crate::show::same;
 use labelling::Operators;
@@ -60,7 +61,7 @@ fn asked_of(name: &[u8], t: Tally, o: Operators) {
 
 fn sum_of_one() {
     put(b"the eight paid counts add up to majors, each at most 2^40\n");
-    let mut t = reader::fresh();
+    let mut t = fresh(1);
     t.groups.bytes = 65548;
     t.groups.voted = 16387;
     t.framing.hunted = 3;
@@ -85,7 +86,7 @@ fn sum_of_one() {
 }
 
 fn sum_of_eight() {
-    let mut t = reader::fresh();
+    let mut t = fresh(1);
     t.groups.bytes = LIMIT;
     t.groups.voted = P38;
     t.framing.good = P31;
@@ -114,7 +115,7 @@ fn sum_of_eight() {
 
 // Paid counts far above the limit, whose sum modulo 2^64 is 0.
 fn wrapping() {
-    let t = reader::fresh();
+    let t = fresh(1);
     asked_of(
         b"no major frame, operators 0 and 7 paid 2^63",
         t,
@@ -130,7 +131,7 @@ fn wrapping() {
 
 fn on_duty() {
     put(b"on duty is 0 to 7\n");
-    let t = reader::fresh();
+    let t = fresh(1);
     asked_of(b"on duty 7", t, staff([0u64; 8], 7));
     asked_of(b"on duty 8", t, staff([0u64; 8], 8));
     asked_of(b"on duty 2^64 - 1", t, staff([0u64; 8], LARGEST));
@@ -153,7 +154,7 @@ fn change(name: &[u8], t: Tally, operator: u64) -> Tally {
 
 fn changes() {
     put(b"a change of duty\n");
-    let t = reader::fresh();
+    let t = fresh(1);
     change(b"operator 0", t, 0);
     change(b"operator 7", t, 7);
     change(b"operator 8", t, 8);
@@ -167,7 +168,7 @@ fn changes() {
 }
 
 fn order() {
-    let mut t = reader::fresh();
+    let mut t = fresh(1);
     t.framing.matched = 3;
     change(b"not in order, operator 7", t, 7);
     change(b"not in order, operator 8", t, 8);
@@ -176,7 +177,7 @@ fn order() {
 // A major frame, all but its last byte.
 fn whose() {
     put(b"a major frame is paid to whoever is on duty when its last byte is taken\n");
-    let mut t = one_short(reader::fresh());
+    let mut t = one_short(fresh(1));
     t.groups.bytes = 65547;
     let named = change(b"operator 5, then operator 2", change_quietly(t, 5), 2);
     let paid = call(b"the last byte", named, 1, AREA);

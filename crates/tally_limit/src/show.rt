@@ -69,6 +69,9 @@ pub(crate) fn same(a: Tally, b: Tally) -> bool {
     if !same_operators(a.operators, b.operators) {
         return false;
     }
+    if a.rule != b.rule {
+        return false;
+    }
     let f = a.frame;
     let g = b.frame;
     same_frame(&f, &g)

@@ -26,7 +26,7 @@ run-requires c κs =
       record {
         order = state-in-order (s .args .t) (s .pre .0);
         fits = record { inside = omega arith; limit = omega (arith, s .pre .2) };
-        frame-length = search needs;
+        frame-length = let after-runs = s .good .0 .1 .1 .1 in search needs;
       },
       s .pre .1,
     )

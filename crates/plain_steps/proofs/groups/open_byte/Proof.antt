@@ -10,16 +10,16 @@ outer-byte-requires : tie.Need-outer-byte-requires
 outer-byte-requires c κs = search needs
 
 returns : tie.Need-returns
-returns c = c .outer-byte .ensures ∙ rw (eq-eqb _ _ (c .before .if1 .taken))
+returns c vote = c .outer-byte .ensures ∙ rw (eq-eqb _ _ (c .before .if1 .taken))
 
 add-next : tie.Need-add-next
 add-next c = search needs
 
 returns-2 : tie.Need-returns-2
-returns-2 c = rw (c .if2 .taken)
+returns-2 c vote = rw (c .if2 .taken)
 
 returns-3 : tie.Need-returns-3
-returns-3 c =
+returns-3 c vote =
     let inside = c .before .before .before in
     let second : inside .before .before .args .g .«open» ≡ 2 = omega arith in
     rw second

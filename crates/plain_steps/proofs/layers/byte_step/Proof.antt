@@ -1,5 +1,6 @@
 -- `plain_steps::layers::byte_step` meets its contract: fewer than three bytes are open, or the byte is a third copy and gives a word. Assumes nothing.
 use denote.Ref.{now}
+use Rattle.labelling.specs.Votes.{ruleVote}
 use Rattle.order.specs.Room.{StateRoom}
 use Rattle.plain_steps.specs.Shapes.{stateWith}
 use Rattle.plain_steps.proofs.Joined.{byte-open, byte-closed}
@@ -18,10 +19,11 @@ open-byte-requires c κs = (room (c .before .before .before) .in-groups, c .if1 
 returns : tie.Need-returns
 returns c =
     let a = c .before .before .before .before .args in
-    byte-open (a .l) (now (a .frame)) (now (a .area)) (a .b) (c .before .if1 .taken) (c .open-byte .ensures)
+    let vote = ruleVote (a .rule) in
+    byte-open vote (a .l) (now (a .frame)) (now (a .area)) (a .b) (c .before .if1 .taken) (c .open-byte .ensures vote)
 
-vote-requires : tie.Need-vote-requires
-vote-requires c κs = search needs
+vote-by-requires : tie.Need-vote-by-requires
+vote-by-requires c κs = search needs
 
 close-group-requires : tie.Need-close-group-requires
 close-group-requires c κs = room (c .before .before .before .before) .in-groups
@@ -42,7 +44,7 @@ returns-2 c =
     let voted = closed .before in
     let third = voted .before in
     let a = third .before .before .before .args in
-    byte-closed (a .l) (now (a .frame)) (now (a .area)) (a .b) (third .if1 .left) (voted .vote .ensures) (closed .close-group .ensures)
+    byte-closed (ruleVote (a .rule)) (a .l) (now (a .frame)) (now (a .area)) (a .b) (third .if1 .left) (voted .vote-by .ensures) (closed .close-group .ensures)
     (stepped .word-step .ensures)
 
 pub byte-step-spec : {M : Type 1} → statement M
@@ -51,7 +53,7 @@ byte-step-spec =
     (tie.spec
     open-byte-requires
     returns
-    vote-requires
+    vote-by-requires
     close-group-requires
     word-step-requires
     same-length

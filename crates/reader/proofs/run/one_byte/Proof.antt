@@ -11,8 +11,8 @@ shared-slice-read-byte-step c = search needs
 byte-step-requires : tie.Need-byte-step-requires
 byte-step-requires c κs = search needs
 
-add-t13 : tie.Need-add-t13
-add-t13 c = search needs
+add-t14 : tie.Need-add-t14
+add-t14 c = search needs
 
 same-length : tie.Need-same-length
 same-length c = search needs
@@ -25,4 +25,4 @@ returns c =
     record { onward = now-onward (stepped .byte-step .ensures) (s .pre .0) (s .pre .1); moves = omega arith }
 
 pub one-byte-spec : {M : Type 1} → statement M
-one-byte-spec = tie.close (tie.spec shared-slice-read-byte-step byte-step-requires add-t13 same-length returns)
+one-byte-spec = tie.close (tie.spec shared-slice-read-byte-step byte-step-requires add-t14 same-length returns)
