@@ -1,4 +1,4 @@
-// The refusal numbers (paper 01, "Refusal numbers"), by name. When each is given is said by the lines of each entry's definition.
+// The refusal numbers (paper 01, "Refusal numbers", and those that paper 02 adds), by name. When each is given is said by the lines of each entry's definition.
 
 // The tally is not in order.
 pub const NOT_IN_ORDER: u8 = 1;
@@ -35,6 +35,9 @@ pub const NO_WORD_FOR_DOUBLE: u8 = 11;
 
 // A list of instants is longer than 100,000.
 pub const LIST_TOO_LONG: u8 = 12;
+
+// A year is outside 1999 to 2099.
+pub const YEAR_OUTSIDE_SPAN: u8 = 13;
 
 // A book's length is not that of its number of cycles, or it has more than 255.
 pub const WRONG_BOOK_LENGTH: u8 = 16;

@@ -1,17 +1,20 @@
 -- The promises of `gather` and `kind`, from the answer that the code gives on each way out; what they say beyond the answer follows from the
 -- definitions alone. And whether seven bytes are a time, by the codec's answer. Assumes nothing.
 use mathlib.Core.Path.{_≡_, refl, ap, _∙_}
-use mathlib.Core.Bool.{Bool, true, false, cond, _||_}
-use mathlib.Core.List.{List}
+use mathlib.Core.Bool.{Bool, true, false, cond, not, _||_}
+use mathlib.Core.List.{List, [], _∷_}
 use Prim.Native.Nat.{ℕ}
 use native.Mathlib.Omega.{arith}
 use lib.ListN.{length}
 use borrow.Author.Tests.{ne-eqb}
+use Rattle.base.specs.Refusal.{_when_, answered}
 use Rattle.base.proofs.Refusals.{answered-of, answered-number}
-use Rattle.time_code.specs.Codec.{decoded}
+use Rattle.time_code.specs.Calendar.{inSpan}
+use Rattle.time_code.specs.Codec.{timeOf, decoded}
 use Rattle.time_code.specs.declared.Decoded.{Decoded}
 use Rattle.time_code.specs.declared.Decoded.the-variants as time-answer
 use Rattle.time_code.specs.Fields.{isTime}
+use Rattle.time_code.proofs.Codes.{of-seven}
 use Rattle.word72_column.specs.declared.ColumnKind.{ColumnKind}
 use Rattle.word72_column.specs.declared.ColumnKind.the-variants.{Kind, Refused}
 use Rattle.word72_column.specs.Columns.{gathered, between, bears, timed, hasKind, kindOf, kindLines, columnKind, numberOf, kindsOf, identifierOf}
@@ -47,49 +50,53 @@ by-time false true c t e = absurd (omega arith)
 by-time false false true t e = absurd (omega arith)
 by-time false false false t e = refl
 
-module _ (column : List ℕ) where
-  kind-promise : (r : ColumnKind) → r ≡ columnKind column → KindPromise column r
+module _ (y : ℕ) (column : List ℕ) where
+  kind-promise : (r : ColumnKind) → r ≡ columnKind y column → KindPromise y column r
   unfolding columnKind
   kind-promise r e =
-      let ls = kindLines column in
+      let ls = kindLines y column in
       record {
         answer = e;
         refusal-is = ap numberOf e ∙ answered-number numberOf Refused ls _ (λ n. refl) refl;
         kind-is = ap kindsOf e ∙ answered-of kindsOf Refused ls _;
       }
 
-  pub kind-refused-2 : (length column ≡ 128 → ⊥) → KindPromise column (Refused 2)
+  pub kind-refused-2 : (length column ≡ 128 → ⊥) → KindPromise y column (Refused 2)
   unfolding columnKind
   kind-refused-2 h = kind-promise _ (rw (ne-eqb (length column) 128 h))
 
-  pub kind-named : (k : ℕ) → length column ≡ 128 → k ≡ identifierOf (between 96 104 column) → (k ≡ 0 → ⊥) → KindPromise column (Kind k)
-  unfolding columnKind identifierOf
-  kind-named k l e h =
-      let has : hasKind column ≡ true = identified (bears 1 column) (bears 2 column) (bears 3 column) (timed column) (λ z. h (e ∙ z)) in
-      kind-promise _ (rw (l, has, e))
+  pub kind-refused-13 : length column ≡ 128 → inSpan y ≡ false → KindPromise y column (Refused 13)
+  unfolding columnKind
+  kind-refused-13 l s = kind-promise _ (rw (l, s))
 
-  module _ (l : length column ≡ 128) (none : identifierOf (between 96 104 column) ≡ 0) where
-    has-kind : hasKind column ≡ timed column
-    unfolding identifierOf
-    has-kind = by-time (bears 1 column) (bears 2 column) (bears 3 column) (timed column) none
-
-    pub kind-timed : timed column ≡ true → KindPromise column (Kind 0)
+  module _ (l : length column ≡ 128) (s : inSpan y ≡ true) where
+    pub kind-named : (k : ℕ) → k ≡ identifierOf (between 96 104 column) → (k ≡ 0 → ⊥) → KindPromise y column (Kind k)
     unfolding columnKind identifierOf
-    kind-timed t = kind-promise _ (rw (l, has-kind, t, none))
+    kind-named k e h =
+        let has : hasKind y column ≡ true = identified (bears 1 column) (bears 2 column) (bears 3 column) (timed y column) (λ z. h (e ∙ z)) in
+        kind-promise _ (rw (l, s, has, e))
 
-    pub kind-refused-6 : timed column ≡ false → KindPromise column (Refused 6)
-    unfolding columnKind
-    kind-refused-6 t = kind-promise _ (rw (l, has-kind, t))
+    module _ (none : identifierOf (between 96 104 column) ≡ 0) where
+      has-kind : hasKind y column ≡ timed y column
+      unfolding identifierOf
+      has-kind = by-time (bears 1 column) (bears 2 column) (bears 3 column) (timed y column) none
+
+      pub kind-timed : timed y column ≡ true → KindPromise y column (Kind 0)
+      unfolding columnKind identifierOf
+      kind-timed t = kind-promise _ (rw (l, s, has-kind, t, none))
+
+      pub kind-refused-6 : timed y column ≡ false → KindPromise y column (Refused 6)
+      unfolding columnKind
+      kind-refused-6 t = kind-promise _ (rw (l, s, has-kind, t))
 
 -- ---- whether seven bytes are a time
 abbrev pub accepted : Decoded → Bool
 accepted (time-answer.Time t) = true
 accepted (time-answer.Refused n) = false
 
-pub time-accepted : (bs : List ℕ) → length bs ≡ 7 → accepted (decoded bs) ≡ isTime bs
-unfolding decoded
-time-accepted bs h = go (isTime bs) refl
+pub time-accepted : (y : ℕ) (bs : List ℕ) → length bs ≡ 7 → inSpan y ≡ true → accepted (decoded y bs) ≡ isTime y bs
+time-accepted y bs h s = rw (of-seven y bs h s) (go (isTime y bs))
   where
-    go : (b : Bool) → isTime bs ≡ b → accepted (decoded bs) ≡ b
-    go true e = rw (h, e)
-    go false e = rw (h, e)
+    go : (b : Bool) → accepted (answered time-answer.Refused (8 when not b ∷ []) (time-answer.Time (timeOf bs))) ≡ b
+    go true = refl
+    go false = refl

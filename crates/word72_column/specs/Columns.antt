@@ -1,4 +1,5 @@
--- The column of a major frame and its kind (01, "Word 72 and its items": gathering, kind; DFCB tables 12 and 14). Definitions only.
+-- The column of a major frame and its kind (01, "Word 72 and its items": gathering, kind; 02, request 4; DFCB tables 12 and 14).
+-- Definitions only.
 use mathlib.Core.Bool.{Bool, true, cond, not, _&&_, _||_}
 use mathlib.Core.List.{List, [], _∷_}
 use Prim.Native.Nat.{ℕ, zero, suc, _+_, _*_, _-_}
@@ -6,6 +7,7 @@ use lib.Dec.{eqb}
 use lib.ListN.{length, getD, take, drop}
 use Rattle.base.specs.Format.{minorFrame, majorFrame}
 use Rattle.base.specs.Refusal.{Line, _when_, answered}
+use Rattle.time_code.specs.Calendar.{inSpan}
 use Rattle.time_code.specs.Fields.{isTime}
 use Rattle.word72_items.specs.ItemTable.{places}
 use Rattle.word72_column.specs.declared.ColumnKind.{ColumnKind}
@@ -47,25 +49,25 @@ allHold k (b ∷ bs) = eqb b k && allHold k bs
 abbrev pub bears : ℕ → List ℕ → Bool
 bears k column = allHold k (between 96 104 column)
 
--- places 96 to 102 are a good time code
-abbrev pub timed : List ℕ → Bool
-timed column = isTime (between 96 103 column)
+-- places 96 to 102 are a good time code of the year y
+abbrev pub timed : ℕ → List ℕ → Bool
+timed y column = isTime y (between 96 103 column)
 
--- a column that bears 1, 2 or 3 or a time code has a kind, and no other column has
-abbrev pub hasKind : List ℕ → Bool
-hasKind column = bears 1 column || bears 2 column || bears 3 column || timed column
+-- a column that bears 1, 2 or 3 or a time code of the year has a kind, and no other column has
+abbrev pub hasKind : ℕ → List ℕ → Bool
+hasKind y column = bears 1 column || bears 2 column || bears 3 column || timed y column
 
 -- the kind of a column that has one: the k in 1, 2, 3 that it bears, and else 0
 abbrev pub kindOf : List ℕ → ℕ
 kindOf column = cond (bears 1 column) 1 (cond (bears 2 column) 2 (cond (bears 3 column) 3 0))
 
-abbrev pub kindLines : List ℕ → List Line
-kindLines column = 2 when not (eqb (length column) places) ∷ 6 when not (hasKind column) ∷ []
+abbrev pub kindLines : ℕ → List ℕ → List Line
+kindLines y column = 2 when not (eqb (length column) places) ∷ 13 when not (inSpan y) ∷ 6 when not (hasKind y column) ∷ []
 
-unfoldable pub columnKind : List ℕ → ColumnKind
-columnKind column = answered Refused (kindLines column) (Kind (kindOf column))
+unfoldable pub columnKind : ℕ → List ℕ → ColumnKind
+columnKind y column = answered Refused (kindLines y column) (Kind (kindOf column))
 
--- 01's number in each case of the answer, 0 for none; and the kind, none where it is refused
+-- the papers' number in each case of the answer, 0 for none; and the kind, none where it is refused
 abbrev pub numberOf : ColumnKind → ℕ
 numberOf (Kind k) = 0
 numberOf (Refused n) = n

@@ -1,11 +1,15 @@
-// The column of a major frame (paper 01, "Word 72 and its items"): how word 72 is gathered into it, and what tells its kind.
+// The column of a major frame (paper 01, "Word 72 and its items"; paper 02, request 4): how word 72 is gathered into it, and what tells its
+// kind.
 ghost use mathlib.Core.Path.{_≡_};
+ghost use mathlib.Core.Bool.{true};
 ghost use lib.ListN.{length};
+ghost use Rattle.time_code.specs.Calendar.{inSpan};
 ghost use Rattle.time_code.specs.Fields.{isTime};
 ghost use Rattle.word72_column.specs.Columns.{gathered, allHold, identifierOf};
 ghost use Rattle.word72_column.specs.Promise.{GatherPromise, KindPromise};
 use base::format;
 use base::refusal;
+use time_code::year;
 use word72_items::PLACES;
 
 // The place of the subcommutated word in a minor frame.
@@ -43,18 +47,22 @@ pub fn gather(area: &[u8], column: &mut [u8]) -> u8
     0
 }
 
-// The kind of a column: the identifier that it bears, or 0 where it has a time code. Refused 2: not 128 bytes. Refused 6: neither.
-pub fn kind(column: &[u8]) -> ColumnKind
-    ensures { λ r. ⌜ KindPromise (now (column .entry)) r ⌝ }
+// The kind of a column recorded in a year: the identifier that it bears, or 0 where it has a time code of that year. Refused 2: not 128
+// bytes. Refused 13: the year is outside 1999 to 2099. Refused 6: neither.
+pub fn kind(year: u64, column: &[u8]) -> ColumnKind
+    ensures { λ r. ⌜ KindPromise year (now (column .entry)) r ⌝ }
 {
     if column.len() != PLACES {
         return ColumnKind::Refused(refusal::WRONG_LENGTH);
+    }
+    if !year::in_span(year) {
+        return ColumnKind::Refused(refusal::YEAR_OUTSIDE_SPAN);
     }
     let identifier = identifier(&column[MARK..IDENTIFIER_END]);
     if identifier != 0 {
         return ColumnKind::Kind(identifier);
     }
-    if is_time(&column[MARK..TIME_END]) {
+    if is_time(year, &column[MARK..TIME_END]) {
         return ColumnKind::Kind(0);
     }
     ColumnKind::Refused(refusal::NO_SUCH_KIND)
@@ -103,12 +111,12 @@ fn identifier(bytes: &[u8]) -> u64
     0
 }
 
-// Whether seven bytes are a good time code.
-fn is_time(bytes: &[u8]) -> bool
-    requires { ⌜ length (now bytes) ≡ 7 ⌝ }
-    ensures { λ r. ⌜ r ≡ isTime (now (bytes .entry)) ⌝ }
+// Whether seven bytes are a good time code of the year.
+fn is_time(year: u64, bytes: &[u8]) -> bool
+    requires { ⌜ (length (now bytes) ≡ 7) × (inSpan year ≡ true) ⌝ }
+    ensures { λ r. ⌜ r ≡ isTime year (now (bytes .entry)) ⌝ }
 {
-    match time_code::decode(bytes) {
+    match time_code::decode(year, bytes) {
         time_code::Decoded::Time(_) => true,
         time_code::Decoded::Refused(_) => false,
     }

@@ -32,7 +32,7 @@ returns c =
     let digits = days .before in
     let a = digits .before .args in
     let w : List ℕ = a .b0 ∷ a .b1 ∷ a .b2 ∷ a .b3 ∷ a .b4 ∷ a .b5 ∷ a .b6 ∷ [] in
-    tested w (digits .is-decimal .result) (c .in-range .result) (days .day .result) (hours .two-digits .result) (minutes .two-digits2 .result)
+    tested (a .year) w (digits .is-decimal .result) (c .in-range .result) (days .day .result) (hours .two-digits .result) (minutes .two-digits2 .result)
     (c .before .two-digits3 .result) (digits .is-decimal .ensures) (c .in-range .ensures) (omega arith) (omega arith) (omega arith) (omega arith)
 
 pub is-time-spec : {M : Type 1} → statement M
