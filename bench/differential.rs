@@ -1,7 +1,8 @@
 // The proved reader against the plain one: differential STREAMS SEED. Stream i has the seed SEED + i, so that a stream which fails is run
 // alone by `1` and its own seed. The readers that the timing compares with are held to the same, and each seed tries the lookup, the
-// writer, the codecs and every item of every kind of word 72 too.
+// writer, the codecs, every item of every kind of word 72 and a book of cycles too.
 
+mod book;
 mod bridge;
 mod bytewise;
 mod codecs;
@@ -72,6 +73,7 @@ struct Seen {
     no_tally: u64,
     ended_in: [u64; 17],
     word72: items::Met,
+    books: book::Met,
 }
 
 impl Seen {
@@ -173,7 +175,8 @@ impl Trial {
         writer::trials(&mut self.r)?;
         lookup::trials(&mut self.r)?;
         codecs::trials(&mut self.r)?;
-        items::trials(&mut self.r, &mut seen.word72)
+        items::trials(&mut self.r, &mut seen.word72)?;
+        book::trials(&mut self.r, &mut seen.books)
     }
 
     // The proved reader, in calls cut at random, with refused calls among them.

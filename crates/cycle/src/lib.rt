@@ -75,16 +75,10 @@ fn is_numbered(minor: &[u8], number: usize) -> bool
     requires { ⌜ length (now minor) ≡ 128 ⌝ }
     ensures { λ r. ⌜ r ≡ isNumbered (now (minor .entry)) number ⌝ }
 {
-    if minor[0] != format::SYNC_WORD_0 {
-        return false;
-    }
-    if minor[1] != format::SYNC_WORD_1 {
-        return false;
-    }
-    if minor[2] != format::SYNC_WORD_2 {
-        return false;
-    }
-    is_number(minor[format::NUMBER_PLACE], number)
+    let synced = (minor[0] == format::SYNC_WORD_0)
+        & (minor[1] == format::SYNC_WORD_1)
+        & (minor[2] == format::SYNC_WORD_2);
+    synced & is_number(minor[format::NUMBER_PLACE], number)
 }
 
 fn is_number(b: u8, number: usize) -> bool
