@@ -122,10 +122,12 @@ fn part(book: &[u8], i: u64) -> Result<[[u64; 2]; 2], u8> {
     Ok([[(HEADER + ENTRY * i) as u64, ENTRY as u64], [offset(cycles, i) as u64, BODY as u64]])
 }
 
+const CYCLES: [(&str, usize); 5] = [("of 0 cycles", 0), ("of 1", 1), ("of 2", 2), ("of 255", MOST), ("of 256", MOST + 1)];
+
 // What was met, so that one can see that every case was.
 #[derive(Default)]
 pub struct Met {
-    cycles: [u64; 257],
+    cycles: [u64; CYCLES.len()],
     written: [u64; 19],
     viewed: [u64; 20],
     // The faults 17, 18 and 19 at the first entry, between, and at the last.
@@ -143,14 +145,19 @@ impl Met {
     }
 
     // The cases and how often each was met.
-    pub fn cases(&self) -> Vec<(String, u64)> {
-        let cycles = [0, 1, 2, MOST, MOST + 1].map(|n| (format!("of {n} cycles"), self.cycles[n]));
-        let written = [0, 2, 13, 16, 17, 18].map(|n| (format!("write {n}"), self.written[n]));
-        let viewed = [0, 13, 16, 17, 18, 19].map(|n| (format!("view {n}"), self.viewed[n]));
-        let places = |k: usize| ["first", "middle", "last"].into_iter().zip(self.at[k]).map(move |(place, n)| (format!("{} {place}", k + 17), n));
-        let mut cases: Vec<_> = cycles.into_iter().chain(written).chain(viewed).chain((0..3).flat_map(places)).collect();
-        cases.push(("part 20".to_string(), self.no_entry));
-        cases
+    pub fn cases(&self) -> Vec<(&'static str, u64)> {
+        const WRITTEN: [(&str, usize); 6] = [("written", 0), ("write 2", 2), ("write 13", 13), ("write 16", 16), ("write 17", 17), ("write 18", 18)];
+        const VIEWED: [(&str, usize); 6] = [("viewed", 0), ("view 13", 13), ("view 16", 16), ("view 17", 17), ("view 18", 18), ("view 19", 19)];
+        const AT: [[&str; 3]; 3] = [
+            ["17 at the first entry", "17 between", "17 at the last"],
+            ["18 at the first entry", "18 between", "18 at the last"],
+            ["19 at the first entry", "19 between", "19 at the last"],
+        ];
+        let cycles = CYCLES.iter().map(|&(name, _)| name).zip(self.cycles);
+        let written = WRITTEN.iter().map(|&(name, n)| (name, self.written[n]));
+        let viewed = VIEWED.iter().map(|&(name, n)| (name, self.viewed[n]));
+        let at = AT.into_iter().flatten().zip(self.at.into_iter().flatten());
+        cycles.chain(written).chain(viewed).chain(at).chain([("part 20", self.no_entry)]).collect()
     }
 }
 
@@ -216,7 +223,9 @@ fn spoil_body(r: &mut Random, bodies: &mut [u8], year: u64) {
     let body = &mut bodies[BODY * i..BODY * (i + 1)];
     let minor = FRAME * [0, 1, 127, 128, 255, 256, 511, r.below(512)][r.below(8)];
     let k = 1 + r.below(3);
-    match r.below(11) {
+    let day_366 = 366 * TICKS_A_DAY + r.next() % TICKS_A_DAY;
+    let no_later = before.map(|before| before - r.below(2) as u64);
+    match r.below(13) {
         0 => body[minor + r.below(3)] ^= 1 << r.below(8),
         1 => body[minor + NUMBER_PLACE] ^= 1 << r.below(8),
         2 => body[column_place(k, 96 + r.below(8))] = [0, 1, 2, 3, 4, r.byte()][r.below(6)],
@@ -230,12 +239,8 @@ fn spoil_body(r: &mut Random, bodies: &mut [u8], year: u64) {
             body[column_place(0, 96 + r.below(8))] ^= 1;
         }
         7 => body[column_place(0, 96 + r.below(7))] = r.byte(),
-        8 => put_instant(r, body, 366 * TICKS_A_DAY + r.next() % TICKS_A_DAY),
-        9 => {
-            if let Some(before) = before {
-                put_instant(r, body, before - r.below(2) as u64);
-            }
-        }
+        8 => put_instant(r, body, day_366),
+        9..=11 => put_instant(r, body, no_later.unwrap_or(day_366)),
         _ => body[minor + 3 + r.below(60)] = r.byte(),
     }
 }
@@ -274,8 +279,8 @@ fn spoil_file(r: &mut Random, book: &mut Vec<u8>, cycles: usize) {
         1 => book[r.below(4)] ^= 1 << r.below(8),
         2 => book.truncate([0, 1, 2, 3, 4, book.len() - 1][r.below(6)]),
         3 => book.resize(book.len() + [1, ENTRY, 128][r.below(3)], 0),
-        4 | 5 if cycles != 0 => book[place + r.below(8)] ^= 1 << r.below(8),
-        6 if cycles != 0 => book[place + 8 + r.below(4)] ^= 1 << r.below(8),
+        4 if cycles != 0 => book[place + r.below(8)] ^= 1 << r.below(8),
+        5 | 6 if cycles != 0 => book[place + 8 + r.below(4)] ^= 1 << r.below(8),
         // An instant as late as the next entry's.
         7 if cycles > 1 => {
             let at = HEADER + ENTRY * r.below(cycles - 1);
@@ -319,7 +324,7 @@ fn part_trial(r: &mut Random, book: &[u8], i: u64, met: &mut Met) -> Result<(), 
 
 pub fn trials(r: &mut Random, met: &mut Met) -> Result<(), String> {
     let (cycles, year) = (any_cycles(r), any_year(r));
-    met.cycles[cycles] += 1;
+    met.cycles.iter_mut().zip(CYCLES).for_each(|(met, (_, n))| *met += (n == cycles) as u64);
     let mut bodies = any_bodies(r, cycles, year);
     for _ in 0..if cycles == 0 { 0 } else { [0, 1, 1, 2][r.below(4)] } {
         spoil_body(r, &mut bodies, year);

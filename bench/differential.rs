@@ -103,7 +103,7 @@ impl Seen {
     }
 
     // The cases and how often each was met.
-    fn cases(&self) -> [(&str, Vec<(&str, u64)>); 3] {
+    fn cases(&self) -> [(&str, Vec<(&str, u64)>); 4] {
         const ENDED_IN: [&str; 17] = [
             "stray", "split", "weak1", "weak2", "weak3", "open", "hunting", "match", "good", "damaged", "unsynced", "placed", "hole", "majors",
             "broken", "loose", "building",
@@ -117,7 +117,7 @@ impl Seen {
             ("refused 3", self.refused[3]),
         ];
         let streams = ENDED_IN.iter().copied().zip(self.ended_in).collect();
-        [("calls", calls), ("streams that ended with some", streams), ("word 72", self.word72.cases())]
+        [("calls", calls), ("streams that ended with some", streams), ("word 72", self.word72.cases()), ("books", self.books.cases())]
     }
 
     // Prints how often each case was met; how many never were, where all should have been.
