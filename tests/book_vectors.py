@@ -24,7 +24,7 @@ import random
 import struct
 from datetime import datetime
 
-import stored
+from stored import checksum, keep
 
 CRATE = os.path.join("crates", "book_vectors")
 MINOR, BODY, ENTRY, HEADER = 128, 65536, 12, 4
@@ -32,7 +32,6 @@ SYNC = b"\xFA\xF3\x20"
 NUMBER, WORD = 65, 72
 YEARS = range(1999, 2100)
 MOST = 255
-MODULUS = 4294967291
 ROOM = 32 * BODY + 128, 4 + 32 * (ENTRY + BODY) + 128
 
 
@@ -144,13 +143,6 @@ def part(book, i):
 
 
 # ---- The program's areas and lines
-
-def checksum(data):
-    h = 0
-    for byte in data:
-        h = (h * 31 + byte) % MODULUS
-    return h
-
 
 def made(seed, code):
     """A body as described but for what the time code is, its other bytes from a seed."""
@@ -504,7 +496,7 @@ def main():
     most_cycles(bench)
     wanted = {"write": (0, 2, 13, 17, 18), "view": (0, 13, 16, 17, 18, 19, 20), "part": (0, 16, 20)}
     assert set(bench.met) == {(word, number) for word, numbers in wanted.items() for number in numbers}
-    stored.keep(CRATE, {"stdin": bytes(bench.input), "stdout": "".join(line + "\n" for line in bench.lines).encode()})
+    keep(CRATE, {"stdin": bytes(bench.input), "stdout": "".join(line + "\n" for line in bench.lines).encode()})
     print(len(bench.lines), "lines")
 
 
