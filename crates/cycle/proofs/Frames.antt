@@ -6,7 +6,7 @@ use Prim.Native.Nat.{ℕ, _+_, _*_, _-_, _<_}
 use native.Mathlib.Omega.{arith}
 use lib.Dec.{eqb}
 use lib.ListN.{length, take, drop}
-use borrow.Author.Tests.{ne-eqb}
+use borrow.Author.Tests.{ne-eqb, eqb-true}
 use Rattle.base.specs.Ranges.{each}
 use Rattle.base.specs.Rows.{row}
 use Rattle.base.proofs.Ranges.{each-true, each-false}
@@ -62,3 +62,12 @@ gathers area column a b = rw (a, b)
 pub kind-is : (y k : ℕ) (frame column : List ℕ) (r : ColumnKind) → column ≡ gathered frame → r ≡ columnKind y column → answersKind k r ≡ isKind y k frame
 unfolding isKind
 kind-is y k frame column r e f = ap (answersKind k) (f ∙ ap (columnKind y) e)
+
+-- a cycle has its length
+pub cycle-length : (y : ℕ) (body : List ℕ) → isCycle y body ≡ true → length body ≡ 65536
+unfolding isCycle
+cycle-length y body = go (eqb (length body) 65536) refl
+  where
+    go : (b : Bool) → eqb (length body) 65536 ≡ b → (b && each (λ k. isMajor y k (row 16384 body k)) 0 4) ≡ true → length body ≡ 65536
+    go true e f = eqb-true (length body) 65536 e
+    go false e f = let z : _≡_ {A = ℕ} 0 1 = cc in omega arith

@@ -1,3 +1,6 @@
+-- `book::writing::falls` meets its contract: the first body has none before it. Assumes nothing.
+use denote.Ref.{now}
+use Rattle.book.proofs.Tests.{later-row, first-row}
 use borrow.Author.Needs.{needs}
 use Rattle.book.proofs.writing.falls.Statement.{statement}
 use Rattle.book.proofs.writing.falls.Tie as tie
@@ -12,10 +15,13 @@ instant-in-requires-2 : tie.Need-instant-in-requires-2
 instant-in-requires-2 c κs = search needs
 
 returns : tie.Need-returns
-returns c = ?
+returns c =
+    let own = c .before in
+    let a = own .before .before .before .args in
+    later-row (a .year) (now (a .bodies)) (a .i) _ _ (own .before .if1 .taken) (own .instant-in .ensures) (c .instant-in2 .ensures)
 
 returns-2 : tie.Need-returns-2
-returns-2 c = ?
+returns-2 c = let a = c .before .before .args in first-row (a .year) (now (a .bodies)) (a .i) (c .if1 .left)
 
 pub falls-spec : {M : Type 1} → statement M
 falls-spec =

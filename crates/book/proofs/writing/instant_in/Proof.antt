@@ -1,3 +1,6 @@
+-- `book::writing::instant_in` meets its contract: the part is the row. Assumes nothing.
+use denote.Ref.{now}
+use Rattle.book.proofs.Tests.{row-instant}
 use borrow.Author.Needs.{needs}
 use Rattle.book.proofs.writing.instant_in.Statement.{statement}
 use Rattle.book.proofs.writing.instant_in.Tie as tie
@@ -21,7 +24,9 @@ instant-requires : tie.Need-instant-requires
 instant-requires c κs = search needs
 
 returns : tie.Need-returns
-returns c = ?
+returns c =
+    let a = c .before .before .before .args in
+    row-instant (a .year) (now (a .bodies)) (a .i) _ (c .instant .ensures)
 
 pub instant-in-spec : {M : Type 1} → statement M
 instant-in-spec =

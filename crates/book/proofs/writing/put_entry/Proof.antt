@@ -1,3 +1,6 @@
+-- `book::writing::put_entry` meets its contract. Assumes nothing.
+use denote.Ref.{now}
+use Rattle.book.proofs.Stores.{entry-put}
 use borrow.Author.Needs.{needs}
 use Rattle.book.proofs.writing.put_entry.Statement.{statement}
 use Rattle.book.proofs.writing.put_entry.Tie as tie
@@ -30,7 +33,11 @@ same-length : tie.Need-same-length
 same-length c = search needs
 
 returns : tie.Need-returns
-returns c = ?
+returns c =
+    let second = c .before .before in
+    let first = second .before .before .before .before in
+    let start = first .before .before .before in
+    entry-put (start .args .instant) (start .args .offset) (now (start .args .out)) _ _ (start .pre) (first .write .ensures) (second .write2 .ensures)
 
 pub put-entry-spec : {M : Type 1} → statement M
 put-entry-spec =
