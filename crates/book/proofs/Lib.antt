@@ -6,3 +6,4 @@ pub mod Ways
 pub mod Placed
 pub mod Accepted
 pub mod Answers
+pub mod Viewing

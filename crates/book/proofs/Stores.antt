@@ -85,7 +85,7 @@ module _ (y : ℕ) (bodies : List ℕ) (n : ℕ) (whole : length bodies ≡ 6553
       let next : start + 12 ≡ 4 + 12 * (i + 1) = omega arith in
       let last : 0 + i ≡ i = omega arith in
       let more : E (i + 1) ≡ E i ++ entry y (bodiesIn bodies) i =
-          ap E (add-one i) ∙ joined-end (entry y (bodiesIn bodies)) 0 i ∙ ap (λ (m : ℕ). E i ++ entry y (bodiesIn bodies) m) last in
+      ap E (add-one i) ∙ joined-end (entry y (bodiesIn bodies)) 0 i ∙ ap (λ (m : ℕ). E i ++ entry y (bodiesIn bodies) m) last in
       rw (width, parts, take-at before rest start lb, drop-at before rest start lb, drop-drop 12 start old, next, is, more)
       (simp append-assoc)
 
@@ -110,8 +110,8 @@ module _ (y : ℕ) (bodies : List ℕ) (n : ℕ) (whole : length bodies ≡ 6553
       let lm : length (midOf start width h2) ≡ width = mid-len start (length h2) h2 (omega arith) in
       let past : drop (length bodies) (midOf start width h2) ≡ [] = drop-of-length-le (midOf start width h2) {i = length bodies} (omega arith) in
       let copied : new ≡ bodies =
-          e3 ∙ ap (λ (r : List ℕ). take (length bodies) bodies ++ r) past ∙ append-nil (take (length bodies) bodies)
-          ∙ take-all (length bodies) bodies (omega arith) in
+      e3 ∙ ap (λ (r : List ℕ). take (length bodies) bodies ++ r) past ∙ append-nil (take (length bodies) bodies)
+      ∙ take-all (length bodies) bodies (omega arith) in
       ap (λ (r : List ℕ). r ++ (new ++ drop width (drop start h2))) head
       ∙ ap (λ (r : List ℕ). before ++ (new ++ r)) tail
       ∙ ap (λ (r : List ℕ). before ++ r) (append-nil new ∙ copied ∙ rows-joined 65536 bodies n (lit< tt) whole)

@@ -51,8 +51,8 @@ loop-again c =
     let l = stored .before .before in
     let s = l .before .before in
     let next =
-        same-offset (now (s .args .bytes)) (l .loop .i) (s .args .n) _ _ (s .pre .said) (stored .offset-at .ensures) (start .body-start .ensures)
-        (c .if1 .left) in
+    same-offset (now (s .args .bytes)) (l .loop .i) (s .args .n) _ _ (s .pre .said) (stored .offset-at .ensures) (start .body-start .ensures)
+    (c .if1 .left) in
     (search needs, below-more _ _ (l .loop .inv .1) next)
 
 returns-2 : tie.Need-returns-2 Inv-loop μ-loop

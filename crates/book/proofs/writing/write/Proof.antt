@@ -41,8 +41,7 @@ put-book-requires c κs =
     let even = fits .before in
     let a = even .before .before .before .args in
     let bodies = now (a .bodies) in
-    let all = whole (a .year) bodies (now (a .out)) _ (even .if1 .left) refl in
-    (
+    let all = whole (a .year) bodies (now (a .out)) _ (even .if1 .left) refl in (
       few-cycles (a .year) bodies _ all (sym (faults .contents-refusal .ensures) ∙ none .if3 .left),
       all,
       fits-is (a .year) bodies (now (a .out)) _ (even .if1 .left) refl _ (fits .fits2 .ensures) (not-false _ (faults .before .if2 .left)),
