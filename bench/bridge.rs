@@ -34,6 +34,11 @@ extern "C" {
         out: *mut [u64; 9],
         number: *mut f64,
     ) -> u8;
+    fn pcd_book_write(year: u64, bodies: *const u8, bodies_len: usize, out: *mut u8, out_len: usize) -> u8;
+    fn pcd_book_view_refusal(book: *const u8, book_len: usize) -> u8;
+    fn pcd_book_header(book: *const u8, book_len: usize, out: *mut [u64; 2]) -> u8;
+    fn pcd_book_entry(book: *const u8, book_len: usize, i: u64, out: *mut [u64; 2]) -> u8;
+    fn pcd_book_body(book: *const u8, book_len: usize, i: u64, out: *mut [u64; 2]) -> u8;
     fn pcd_find(instants: *const u64, instants_len: usize, wanted: u64, out: *mut [u64; 2]) -> u8;
 }
 
@@ -140,4 +145,24 @@ pub fn read(year: u64, column: &[u8], kind: u64, item: u64, out: &mut [u64; 9], 
 
 pub fn find(instants: &[u64], wanted: u64, out: &mut [u64; 2]) -> u8 {
     unsafe { pcd_find(instants.as_ptr(), instants.len(), wanted, out) }
+}
+
+pub fn book_write(year: u64, bodies: &[u8], out: &mut [u8]) -> u8 {
+    unsafe { pcd_book_write(year, bodies.as_ptr(), bodies.len(), out.as_mut_ptr(), out.len()) }
+}
+
+pub fn book_view_refusal(book: &[u8]) -> u8 {
+    unsafe { pcd_book_view_refusal(book.as_ptr(), book.len()) }
+}
+
+pub fn book_header(book: &[u8], out: &mut [u64; 2]) -> u8 {
+    unsafe { pcd_book_header(book.as_ptr(), book.len(), out) }
+}
+
+pub fn book_entry(book: &[u8], i: u64, out: &mut [u64; 2]) -> u8 {
+    unsafe { pcd_book_entry(book.as_ptr(), book.len(), i, out) }
+}
+
+pub fn book_body(book: &[u8], i: u64, out: &mut [u64; 2]) -> u8 {
+    unsafe { pcd_book_body(book.as_ptr(), book.len(), i, out) }
 }

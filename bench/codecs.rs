@@ -13,7 +13,7 @@ pub fn in_span(year: u64) -> Result<(), u8> {
 }
 
 // Day 366 is good in a year that is divisible by 4.
-fn days(year: u64) -> u64 {
+pub fn days(year: u64) -> u64 {
     365 + u64::from(year & 3 == 0)
 }
 

@@ -1,8 +1,9 @@
 // The proved reader against the plain one: differential STREAMS SEED. Stream i has the seed SEED + i, so that a stream which fails is run
 // alone by `1` and its own seed. The readers that the timing compares with are held to the same, and each seed tries the lookup, the
-// writer, the codecs and every item of every kind of word 72 too.
+// writer, the codecs, every item of every kind of word 72 and a book of cycles too.
 
 mod alike;
+mod book;
 mod bridge;
 mod bytewise;
 mod codecs;
@@ -81,6 +82,7 @@ struct Seen {
     paid_to: [u64; OPERATORS],
     ended_in: [u64; 17],
     word72: items::Met,
+    books: book::Met,
 }
 
 impl Seen {
@@ -110,7 +112,7 @@ impl Seen {
     }
 
     // The cases and how often each was met.
-    fn cases(&self) -> [(&str, Vec<(&str, u64)>); 5] {
+    fn cases(&self) -> Vec<(&str, Vec<(&str, u64)>)> {
         const ENDED_IN: [&str; 17] = [
             "stray", "split", "weak1", "weak2", "weak3", "open", "hunting", "match", "good", "damaged", "unsynced", "placed", "hole", "majors",
             "broken", "loose", "building",
@@ -133,12 +135,13 @@ impl Seen {
         ];
         let paid_to = ["0", "1", "2", "3", "4", "5", "6", "7"].into_iter().zip(self.paid_to).collect();
         let streams = ENDED_IN.iter().copied().zip(self.ended_in).collect();
-        [
+        vec![
             ("calls", calls),
             ("changes of duty", changes),
             ("major frames paid to operator", paid_to),
             ("streams that ended with some", streams),
             ("word 72", self.word72.cases()),
+            ("books", self.books.cases()),
         ]
     }
 
@@ -202,7 +205,8 @@ impl Trial {
         writer::trials(&mut self.r)?;
         lookup::trials(&mut self.r)?;
         codecs::trials(&mut self.r)?;
-        items::trials(&mut self.r, &mut seen.word72)
+        items::trials(&mut self.r, &mut seen.word72)?;
+        book::trials(&mut self.r, &mut seen.books)
     }
 
     fn readers(&mut self, seen: &mut Seen) -> Result<(), String> {

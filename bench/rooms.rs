@@ -3,7 +3,13 @@
 
 // Of these the differential test uses more.
 #[allow(dead_code)]
+mod book;
+#[allow(dead_code)]
 mod bridge;
+#[allow(dead_code)]
+mod codecs;
+#[allow(dead_code)]
+mod entry;
 #[allow(dead_code)]
 mod lookup;
 #[allow(dead_code)]
@@ -31,6 +37,38 @@ fn main() {
     println!("{:<18} | {:>7} {:>9} {:>9} | {:>9} {:>9}", "areas", "proved", "by steps", "by places", "by steps", "by places");
     print_gathering("16 (0.3 MB)", 16);
     print_gathering("4096 (67 MB)", 4096);
+    println!();
+    println!("books: ms a book, best of {BOOKS} rounds, beside a copy of as many bytes; then the time as a ratio to it");
+    println!();
+    println!("{:<18} | {:>7} {:>7} {:>7} | {:>7} {:>7}", "cycles", "write", "view", "memcpy", "write", "view");
+    print_book("1 (0.07 MB)", 1);
+    print_book("16 (1.0 MB)", 16);
+    print_book("255 (16.7 MB)", book::MOST);
+}
+
+const BOOKS: usize = 60;
+
+// Writing a book, making a view of it, and copying it.
+fn print_book(name: &str, cycles: usize) {
+    let bodies = book::any_bodies(&mut Random(4), cycles, 2000);
+    let wanted = book::laid_out(2000, &bodies);
+    let mut out = [vec![0; wanted.len()], vec![0; wanted.len()]];
+    let mut best = [f64::INFINITY; 3];
+    // As many bytes a round for a small book as for a large one.
+    let turns = (16 / cycles).max(1);
+    let mut time = |place: usize, work: &mut dyn FnMut()| {
+        let started = Instant::now();
+        (0..turns).for_each(|_| work());
+        best[place] = best[place].min(started.elapsed().as_secs_f64() * 1e3 / turns as f64);
+    };
+    for _ in 0..BOOKS {
+        time(0, &mut || assert_eq!(bridge::book_write(2000, &bodies, &mut out[0]), 0));
+        time(1, &mut || assert_eq!(bridge::book_view_refusal(&out[0]), 0));
+        time(2, &mut || out[1].copy_from_slice(&wanted));
+    }
+    assert!(out[0] == wanted && out[1] == wanted, "the books differ");
+    let [write, view, copy] = best;
+    println!("{name:<18} | {write:>7.3} {view:>7.3} {copy:>7.3} | {:>7.2} {:>7.2}", write / copy, view / copy);
 }
 
 // Place 72 of each of the 128 minor frames, by steps of 128, and by the place of each.

@@ -42,6 +42,11 @@ extern "C" {
 #define PCD_YEAR_OUTSIDE_SPAN 13 /* a year is outside 1999 to 2099; given before 6 */
 #define PCD_NO_SUCH_OPERATOR 14  /* the operator's number is above 7 */
 #define PCD_NO_SUCH_RULE 15      /* a fresh tally is asked for with another rule than 1 or 2 */
+#define PCD_WRONG_BOOK_LENGTH 16 /* a book has another length than its cycles make, or more than 255 of them */
+#define PCD_NOT_A_CYCLE 17       /* a body is not four major frames of kinds 0 to 3 of whole minor frames */
+#define PCD_WRONG_INSTANT 18     /* an entry's instant is not its body's, or is no later than the one before */
+#define PCD_WRONG_OFFSET 19      /* an entry's offset is not its body's */
+#define PCD_NO_SUCH_ENTRY 20     /* the book has no such entry */
 
 /* ---- Sizes */
 
@@ -51,6 +56,8 @@ extern "C" {
 #define PCD_COLUMN 128           /* word 72 of each minor frame of a major frame */
 #define PCD_TIME 7               /* the bytes of a time code */
 #define PCD_NUMBER 6             /* the bytes of a number of MIL-STD-1750, extended */
+#define PCD_ENTRY 12             /* the bytes of an entry of a book: instant (8) and offset (4), first byte highest */
+#define PCD_BODY 65536           /* the bytes of a body: four major frames */
 
 /* ---- The reader
  *
@@ -172,6 +179,25 @@ uint8_t pcd_encode_number(double x, uint8_t *out, size_t out_len);
 /* Finds the last instant at or before the wanted one, by halving: out gets its place plus one, 0 for none, and how many instants were looked
  * at. Of a list that does not rise, the place that halving comes to. Refused: 12. */
 uint8_t pcd_find(const uint64_t *instants, size_t instants_len, uint64_t wanted, uint64_t out[2]);
+
+/* ---- A book of cycles
+ *
+ * The number of cycles and the year, 2 bytes each, first byte highest; an entry of PCD_ENTRY bytes for each cycle; then its body of PCD_BODY
+ * bytes for each. */
+
+/* Writes the book of a year, 1999 to 2099, and of n bodies that stand end to end, at most 255, into exactly 4 + n * (PCD_ENTRY + PCD_BODY)
+ * bytes. Refused, in this order: 2, no whole number of bodies or another length of out; 13, 16, 17, 18. */
+uint8_t pcd_book_write(uint64_t year, const uint8_t *bodies, size_t bodies_len, uint8_t *out, size_t out_len);
+
+/* Whether the bytes are a book. Refused, in this order: 16, fewer than 4 bytes; 13, 16, 17, 18, 19. */
+uint8_t pcd_book_view_refusal(const uint8_t *book, size_t book_len);
+
+/* The number of cycles and the year that a book says. Only its length is tested. Refused: 16. */
+uint8_t pcd_book_header(const uint8_t *book, size_t book_len, uint64_t out[2]);
+
+/* Where entry i, or body i, stands in a book, and its length. Only the book's length is tested, and no offset in it is used. Refused: 16, 20. */
+uint8_t pcd_book_entry(const uint8_t *book, size_t book_len, uint64_t i, uint64_t out[2]);
+uint8_t pcd_book_body(const uint8_t *book, size_t book_len, uint64_t i, uint64_t out[2]);
 
 #ifdef __cplusplus
 }

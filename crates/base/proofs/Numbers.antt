@@ -11,7 +11,7 @@ use lib.Dec.{T, ltb, lt→ltb, lit<}
 use lib.Ieee.Fits.{and-i}
 use lib.ListN.{length, getD, take, drop, set, length-append, length-set}
 use lib.Pow.{areBytes, pow-add}
-use lib.Seq.{take-suc, drop-length, drop-cons, getD-set-same, drop-set-lt}
+use lib.Seq.{take-suc, drop-length, drop-cons, getD-set-same, drop-set-lt, getD-drop}
 use Rattle.base.specs.Numbers.{bigEndian, bytesOf}
 use Rattle.base.proofs.Lists.{byte-at}
 
@@ -146,3 +146,19 @@ pub stored-all : (x : ℕ) (out : List ℕ) (i rest : ℕ) → i ≡ 0 → Store
 stored-all x out i rest e s =
     let all : length out - i ≡ length out = omega arith in
     sym (ap (λ (k : ℕ). drop k out) e) ∙ s .stands ∙ ap (λ (k : ℕ). bytesOf k x) all
+
+-- ---- parts of bytes
+pub take-bytes : (n : ℕ) (w : List ℕ) → Bytes w → Bytes (take n w)
+take-bytes zero w h k = lit< tt
+take-bytes (suc n) [] h k = lit< tt
+take-bytes (suc n) (b ∷ w) h zero = h 0
+take-bytes (suc n) (b ∷ w) h (suc k) = take-bytes n w (λ j. h (suc j)) k
+
+pub drop-bytes : (n : ℕ) (w : List ℕ) → Bytes w → Bytes (drop n w)
+drop-bytes n w h k = rw getD-drop (h (n + k))
+
+-- n bytes of which there are so many
+pub short-take : (n : ℕ) (w : List ℕ) → length (take n w) ≤ n
+short-take zero w = omega arith
+short-take (suc n) [] = omega arith
+short-take (suc n) (b ∷ w) = let l = short-take n w in omega arith

@@ -56,3 +56,30 @@ module _ {A : Type 0} where
   answered-number numberOf refused (l ∷ ls) given told none =
       cond-of numberOf (l .holds) (refused (l .number)) (answered refused ls given)
       ∙ rw (told (l .number), answered-number numberOf refused ls given told none)
+
+-- ---- an answer by its number
+
+-- no line bears the number 0, which is for none
+abbrev pub Positive : List Line → Type 0
+Positive [] = Unit {0}
+Positive (l ∷ ls) = (l .number ≡ 0 → ⊥) × Positive ls
+
+module _ {A : Type 0} (a given : A) where
+  -- a refusal with any number gives a
+  pub refused-is : (ls : List Line) → (refusal ls ≡ 0 → ⊥) → answered (λ n. a) ls given ≡ a
+  refused-is [] = λ h. absurd (h refl)
+  refused-is (l ∷ ls) = go (l .holds) (refused-is ls)
+    where
+      go : (b : Bool) → ((refusal ls ≡ 0 → ⊥) → answered (λ n. a) ls given ≡ a)
+          → (cond b (l .number) (refusal ls) ≡ 0 → ⊥) → cond b a (answered (λ n. a) ls given) ≡ a
+      go true later h = refl
+      go false later h = later h
+
+  pub given-is : (ls : List Line) → Positive ls → refusal ls ≡ 0 → answered (λ n. a) ls given ≡ given
+  given-is [] p = λ h. refl
+  given-is (l ∷ ls) p = go (l .holds) (given-is ls (p .1))
+    where
+      go : (b : Bool) → (refusal ls ≡ 0 → answered (λ n. a) ls given ≡ given)
+          → cond b (l .number) (refusal ls) ≡ 0 → cond b a (answered (λ n. a) ls given) ≡ given
+      go true later h = absurd (p .0 h)
+      go false later h = later h

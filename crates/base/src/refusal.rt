@@ -43,3 +43,18 @@ pub const NO_SUCH_OPERATOR: u8 = 14;
 
 // A fresh tally is asked for with another rule than 1 and 2. This is tested before all others.
 pub const NO_SUCH_RULE: u8 = 15;
+
+// A book's length is not that of its number of cycles, or it has more than 255.
+pub const WRONG_BOOK_LENGTH: u8 = 16;
+
+// A body of a book is not as described.
+pub const NOT_A_CYCLE: u8 = 17;
+
+// An entry's instant is not its body's, or does not rise.
+pub const WRONG_INSTANT: u8 = 18;
+
+// An entry's offset is not where its body starts.
+pub const WRONG_OFFSET: u8 = 19;
+
+// A book has no such entry.
+pub const NO_SUCH_ENTRY: u8 = 20;

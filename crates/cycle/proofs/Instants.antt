@@ -1,0 +1,71 @@
+-- The instant of a body: the seven bytes that it is read from, and that it fits eight bytes. Assumes nothing.
+use mathlib.Core.Path.{_≡_, refl, sym, ap, _∙_}
+use mathlib.Core.Bool.{Bool}
+use mathlib.Core.List.{List, [], _∷_}
+use Prim.Native.Nat.{ℕ, _+_, _*_, _^_, _<_}
+use native.Mathlib.Omega.{arith}
+use lib.Dec.{T}
+use lib.Ieee.Fits.{and-l, and-r}
+use lib.ListN.{getD, take, drop}
+use lib.Seq.{getD-take}
+use Rattle.base.specs.Rows.{row}
+use Rattle.time_code.specs.Codec.{decoded}
+use Rattle.time_code.specs.Fields.{day, hour, minute, second, millisecond, sixteenth, decimal, inRange, isTime, instant}
+use Rattle.time_code.specs.declared.Decoded.{Decoded}
+use Rattle.time_code.specs.declared.Decoded.the-variants as time
+use Rattle.time_code.proofs.Codes.{to-accepted}
+use Rattle.time_code.proofs.Fields.{Digits, to-digits, InRange, to-range}
+use Rattle.word72_column.specs.Columns.{gathered}
+use Rattle.cycle.specs.Cycle.{timeBytes, instantIn, instantOf}
+
+-- word 72 of the minor frames 96 to 102
+pub time-bytes : (body : List ℕ) (b0 b1 b2 b3 b4 b5 b6 : ℕ) → b0 ≡ getD body 12360 0 → b1 ≡ getD body 12488 0 → b2 ≡ getD body 12616 0
+    → b3 ≡ getD body 12744 0 → b4 ≡ getD body 12872 0 → b5 ≡ getD body 13000 0 → b6 ≡ getD body 13128 0
+    → b0 ∷ b1 ∷ b2 ∷ b3 ∷ b4 ∷ b5 ∷ b6 ∷ [] ≡ timeBytes body
+unfolding timeBytes gathered row
+time-bytes body b0 b1 b2 b3 b4 b5 b6 e0 e1 e2 e3 e4 e5 e6 =
+    rw (e0 ∙ first 12360 (omega arith), e1 ∙ first 12488 (omega arith), e2 ∙ first 12616 (omega arith), e3 ∙ first 12744 (omega arith))
+    (rw (e4 ∙ first 12872 (omega arith), e5 ∙ first 13000 (omega arith), e6 ∙ first 13128 (omega arith)))
+  where
+    -- in the first major frame
+    first : (k : ℕ) → k < 16384 → getD body k 0 ≡ getD (take 16384 body) k 0
+    first k h = sym (getD-take 16384 body k 0 h)
+
+module _ (y : ℕ) (w : List ℕ) (t : T (isTime y w)) where
+  abbrev in-range : Bool
+  in-range = inRange y (day w) (hour w) (minute w) (second w)
+
+  digits : Digits w 1 12
+  unfolding isTime
+  digits = to-digits w 1 12 (and-l (decimal w 1 12) in-range t)
+
+  range : InRange (day w) (hour w) (minute w) (second w)
+  unfolding isTime
+  range = to-range y (day w) (hour w) (minute w) (second w) (and-r (decimal w 1 12) in-range t)
+
+  time-fits : instant w < 256 ^ 8
+  time-fits =
+      let r = range in
+      let milliseconds : millisecond w < 1000 = let f = digits in omega arith in
+      let sixteenths : sixteenth w < 16 = omega arith in
+      bound (day w) (hour w) (minute w) (second w) (millisecond w) (sixteenth w) r milliseconds sixteenths
+    where
+      bound : (d h m s ms x : ℕ) → InRange d h m s → ms < 1000 → x < 16 → ((((d * 24 + h) * 60 + m) * 60 + s) * 1000 + ms) * 16 + x < 256 ^ 8
+      bound d h m s ms x r MS X = omega arith
+
+-- ---- the instant that was read
+pub instant-is : (y : ℕ) (body code : List ℕ) (d : Decoded) → code ≡ timeBytes body → d ≡ decoded y code → instantIn d ≡ instantOf y body
+unfolding instantOf
+instant-is y body code d e f = ap instantIn (f ∙ ap (decoded y) e)
+
+pub instant-fits : (y : ℕ) (body : List ℕ) → instantOf y body < 256 ^ 8
+unfolding instantOf
+instant-fits y body = go (decoded y (timeBytes body)) refl
+  where
+    go : (d : Decoded) → decoded y (timeBytes body) ≡ d → instantIn d < 256 ^ 8
+    go (time.Time t) e =
+        let a = to-accepted y (timeBytes body) t e in
+        let f = time-fits y (timeBytes body) (a .is-time) in
+        let same = ap (λ (u : _). u .instant) (a .is-read) in
+        omega arith
+    go (time.Refused n) e = omega arith
