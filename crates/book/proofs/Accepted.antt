@@ -14,7 +14,7 @@ use Rattle.cycle.proofs.Frames.{cycle-length}
 use Rattle.book.specs.Layout.{bodyStart, bookLength, book, cyclesSaid, yearSaid, instantAt, bodyAt, cyclesOf}
 use Rattle.book.specs.Faults.{contents, contentsOf, isSized, badBody, falls, badInstant, badOffset, viewRefusal}
 use Rattle.book.proofs.Placed.{book-length, cycles-said, year-said, instant-at, offset-at, body-at, cycles-of}
-use Rattle.book.proofs.Ways.{number, long, Sound, sound-none, none-sound}
+use Rattle.book.proofs.Ways.{number, long-number, Sound, sound-none, none-sound}
 
 module _ (y : ℕ) (cs : List (List ℕ)) (s : Sound (contentsOf y cs)) where
   abbrev n : ℕ
@@ -96,4 +96,4 @@ module _ (y : ℕ) (cs : List (List ℕ)) (s : Sound (contentsOf y cs)) where
         instants = λ i h. instants i (omega arith);
         offsets = λ i h. offsets i (omega arith);
       })
-      ∙ long B (omega arith))
+      ∙ long-number B (omega arith))

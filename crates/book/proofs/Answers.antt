@@ -20,7 +20,7 @@ use Rattle.book.specs.Faults.{Contents, contentsOf, isSized, badBody, fa
 use Rattle.book.specs.Writing.{bodiesIn, writeLines, writeRefusal, writeAfter}
 use Rattle.book.specs.Promise.{WritePromise}
 use Rattle.book.specs.Sought.{badRow, rowInstant, fallingRow}
-use Rattle.book.proofs.Ways.{number, Sound, none-sound, other-year, other-size, other-body, other-instant, no-fault}
+use Rattle.book.proofs.Ways.{number, numbered, Sound, none-sound, other-year, other-size, other-body, other-instant, no-fault}
 use Rattle.book.proofs.Accepted.{accepted, year-is, cycles-are}
 
 -- ---- the faults of a year and n bodies end to end
@@ -67,30 +67,31 @@ module _ (y : ℕ) (bodies : List ℕ) (n : ℕ) (whole : length bodies ≡ 6553
   few h = rw many (le-leb n 255 h)
 
   pub refused-13 : inSpan y ≡ false → 13 ≡ number c
-  refused-13 s = other-year c s
+  refused-13 s = numbered c (other-year c s)
 
   module _ (s : inSpan y ≡ true) where
     pub refused-16 : 255 < n → 16 ≡ number c
     unfolding isSized
-    refused-16 h = other-size c s (rw many (lt-leb n 255 h))
+    refused-16 h = numbered c (other-size c s (rw many (lt-leb n 255 h)))
 
     module _ (h : n ≤ 255) where
       pub refused-17 : (r : ℕ) → r ≡ lowest (badRow y bodies) 0 n → r < n → 17 ≡ number c
-      refused-17 r e l = let m = many in let low = low-body in other-body c s (few h) (omega arith)
+      refused-17 r e l = let m = many in let low = low-body in numbered c (other-body c s (few h) (omega arith))
 
       module _ (r : ℕ) (e : r ≡ lowest (badRow y bodies) 0 n) (cycles : n ≤ r) where
         all-cycles : c .count ≤ lowest (badBody c) 0 (c .count)
         all-cycles = let m = many in let low = low-body in omega arith
 
         pub refused-18 : (q : ℕ) → q ≡ lowest (fallingRow y bodies) 0 n → q < n → 18 ≡ number c
-        refused-18 q f l = let m = many in let low = low-instant in other-instant c s (few h) all-cycles (omega arith)
+        refused-18 q f l = let m = many in let low = low-instant in numbered c (other-instant c s (few h) all-cycles (omega arith))
 
         pub none-refused : (q : ℕ) → q ≡ lowest (fallingRow y bodies) 0 n → n ≤ q → 0 ≡ number c
         none-refused q f l =
             let m = many in
             let low = low-instant in
-            no-fault c s (few h) all-cycles (omega arith)
-            (none-holds (badOffset c) (c .count) (λ i b. no-offset i (omega arith)))
+            numbered c
+            (no-fault c s (few h) all-cycles (omega arith)
+            (none-holds (badOffset c) (c .count) (λ i b. no-offset i (omega arith))))
 
   -- a year and bodies of which nothing is refused are few
   pub few-cycles : number c ≡ 0 → n ≤ 255

@@ -1,4 +1,4 @@
--- The refusal of a view by the tests of its code: the bodies are looked at as rows of all that follows the entries. Assumes nothing.
+-- The first fault of a book by the tests of the code: the bodies are looked at as rows of all that follows the entries. Assumes nothing.
 use mathlib.Core.Path.{_≡_, refl, sym, ap, _∙_}
 use mathlib.Core.Bool.{Bool, true, false, not}
 use mathlib.Core.List.{List}
@@ -10,17 +10,17 @@ use Rattle.base.specs.Ranges.{lowest}
 use Rattle.base.proofs.Ranges.{lowest-same}
 use Rattle.time_code.specs.Calendar.{inSpan}
 use Rattle.book.specs.Layout.{bookLength, cyclesSaid, yearSaid}
-use Rattle.book.specs.Faults.{contents, isSized, badBody, badInstant, badOffset, viewRefusal}
+use Rattle.book.specs.Faults.{contents, isSized, badBody, badInstant, badOffset, faultAt, firstFault}
 use Rattle.book.specs.Sought.{Sized, Laid, badRow}
 use Rattle.book.proofs.Said.{sized, body-row}
 use Rattle.book.proofs.Ways.{long, other-year, other-size, other-body, other-instant, other-offset, no-fault}
 
 -- ---- the whole book
 module _ (b : List ℕ) (l : 4 ≤ length b) where
-  pub refused-13 : inSpan (yearSaid b) ≡ false → 13 ≡ viewRefusal b
+  pub refused-13 : inSpan (yearSaid b) ≡ false → faultAt 13 0 ≡ firstFault b
   refused-13 s = other-year (contents b) s ∙ long b l
 
-  pub refused-16 : inSpan (yearSaid b) ≡ true → isSized (contents b) ≡ false → 16 ≡ viewRefusal b
+  pub refused-16 : inSpan (yearSaid b) ≡ true → isSized (contents b) ≡ false → faultAt 16 0 ≡ firstFault b
   refused-16 s z = other-size (contents b) s z ∙ long b l
 
 -- ---- its entries
@@ -51,28 +51,30 @@ module _ (b : List ℕ) (laid : Laid b) (n : ℕ) (count : n ≡ cyclesSaid b) w
     low : (bad : ℕ → Bool) (r : ℕ) → r ≡ lowest bad 0 n → r ≡ lowest bad 0 (cyclesSaid b)
     low bad r e = e ∙ ap (lowest bad 0) count
 
-    pub refused-17 : (r : ℕ) → r ≡ lowest (badRow y rest) 0 n → r < n → 17 ≡ viewRefusal b
-    refused-17 r e h = let f = low-body in other-body (contents b) (laid .span) (laid .sized) (omega arith) ∙ long b (laid .header)
+    pub refused-17 : (r : ℕ) → r ≡ lowest (badRow y rest) 0 n → r < n → faultAt 17 r ≡ firstFault b
+    refused-17 r e h =
+        let f = low-body in
+        rw (e ∙ sym f) (other-body (contents b) (laid .span) (laid .sized) (omega arith) ∙ long b (laid .header))
 
     module _ (r : ℕ) (e : r ≡ lowest (badRow y rest) 0 n) (cycles : n ≤ r) where
       all-cycles : cyclesSaid b ≤ lowest (badBody (contents b)) 0 (cyclesSaid b)
       all-cycles = let f = low-body in omega arith
 
-      pub refused-18 : (q : ℕ) → q ≡ lowest (badInstant (contents b)) 0 n → q < n → 18 ≡ viewRefusal b
+      pub refused-18 : (q : ℕ) → q ≡ lowest (badInstant (contents b)) 0 n → q < n → faultAt 18 q ≡ firstFault b
       refused-18 q f h =
           let g = low (badInstant (contents b)) q f in
-          other-instant (contents b) (laid .span) (laid .sized) all-cycles (omega arith) ∙ long b (laid .header)
+          rw g (other-instant (contents b) (laid .span) (laid .sized) all-cycles (omega arith) ∙ long b (laid .header))
 
       module _ (q : ℕ) (f : q ≡ lowest (badInstant (contents b)) 0 n) (rise : n ≤ q) where
         all-rise : cyclesSaid b ≤ lowest (badInstant (contents b)) 0 (cyclesSaid b)
         all-rise = let g = low (badInstant (contents b)) q f in omega arith
 
-        pub refused-19 : (p : ℕ) → p ≡ lowest (badOffset (contents b)) 0 n → p < n → 19 ≡ viewRefusal b
+        pub refused-19 : (p : ℕ) → p ≡ lowest (badOffset (contents b)) 0 n → p < n → faultAt 19 p ≡ firstFault b
         refused-19 p g h =
             let k = low (badOffset (contents b)) p g in
-            other-offset (contents b) (laid .span) (laid .sized) all-cycles all-rise (omega arith) ∙ long b (laid .header)
+            rw k (other-offset (contents b) (laid .span) (laid .sized) all-cycles all-rise (omega arith) ∙ long b (laid .header))
 
-        pub none-refused : (p : ℕ) → p ≡ lowest (badOffset (contents b)) 0 n → n ≤ p → 0 ≡ viewRefusal b
+        pub none-refused : (p : ℕ) → p ≡ lowest (badOffset (contents b)) 0 n → n ≤ p → faultAt 0 0 ≡ firstFault b
         none-refused p g h =
             let k = low (badOffset (contents b)) p g in
             no-fault (contents b) (laid .span) (laid .sized) all-cycles all-rise (omega arith) ∙ long b (laid .header)

@@ -1,7 +1,7 @@
 -- The faults of a book, in the order in which they are tested, each with the lowest entry that has it (02, requests 7 and 8). It is one list,
 -- over what a book says, be it in bytes or still a year and a list of cycles: what is written, what a view holds and what a check answers all
 -- cite it. Definitions only.
-use mathlib.Core.Bool.{Bool, true, not, _&&_, _||_}
+use mathlib.Core.Bool.{Bool, true, cond, not, _&&_, _||_}
 use mathlib.Core.List.{List, [], _∷_, map}
 use Prim.Native.Nat.{ℕ, _-_}
 use lib.Dec.{eqb, leb, ltb}
@@ -10,6 +10,7 @@ use Rattle.base.specs.Ranges.{lowest}
 use Rattle.base.specs.Refusal.{Line, _when_, refusal}
 use Rattle.time_code.specs.Calendar.{inSpan}
 use Rattle.cycle.specs.Cycle.{instantOf, isCycle}
+use Rattle.book.specs.declared.faults.FirstFault.{FirstFault}
 use Rattle.book.specs.Layout.{headerLength, mostCycles, bodyStart, bookLength, cyclesSaid, yearSaid, instantAt, offsetAt, bodyAt}
 
 -- what a book says: the year, how many cycles, whether it is as long as a book of so many, and of each entry the instant, the offset, the body
@@ -96,3 +97,15 @@ linesOf fs = map (λ f. f .line) fs
 -- 0, or why a view holds nothing
 unfoldable pub viewRefusal : List ℕ → ℕ
 viewRefusal b = refusal (linesOf (bookFaults b))
+
+-- the first that holds, with its entry (02, request 8); 0 and 0 where none does. 01's rule that a refusal holds 0 beside its number gives way
+-- here: the entry need not be 0
+abbrev pub faultAt : ℕ → ℕ → FirstFault
+faultAt number entry = record { number = number; entry = entry }
+
+abbrev pub firstOf : List Fault → FirstFault
+firstOf [] = faultAt 0 0
+firstOf (f ∷ fs) = cond (f .line .holds) (faultAt (f .line .number) (f .entry)) (firstOf fs)
+
+unfoldable pub firstFault : List ℕ → FirstFault
+firstFault b = firstOf (bookFaults b)

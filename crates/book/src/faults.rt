@@ -4,7 +4,7 @@ ghost use Prim.Native.Nat.{_+_, _*_, _≤_, _<_};
 ghost use lib.ListN.{length};
 ghost use Rattle.base.specs.Ranges.{lowest};
 ghost use Rattle.book.specs.Layout.{bodyStart, cyclesSaid, yearSaid};
-ghost use Rattle.book.specs.Faults.{contents, isSized, badInstant, badOffset, viewRefusal};
+ghost use Rattle.book.specs.Faults.{contents, isSized, badInstant, badOffset, viewRefusal, faultAt, firstFault};
 ghost use Rattle.book.specs.Sought.{badRow, Laid, Sized};
 use crate::fields;
 use crate::layout::ENTRY;
@@ -14,21 +14,44 @@ use crate::layout::MOST_CYCLES;
 use base::refusal;
 use cycle::CYCLE;
 
-// 0, or why a view of the bytes holds nothing. 13: the year. 16: the length, or more than 255 cycles; fewer than 4 bytes before 13. 17: a
-// body is not as described. 18: an instant is not its body's, or does not rise. 19: an offset.
+// The first fault of a book, by its number, and the lowest entry that has it: 0 for a fault of the whole book. Both are 0 where there is none.
+pub struct FirstFault {
+    pub number: u8,
+    pub entry: u64,
+}
+
+fn fault_at(number: u8, entry: usize) -> FirstFault
+    ensures { λ r. ⌜ r ≡ faultAt number entry ⌝ }
+{
+    FirstFault {
+        number: number,
+        entry: entry as u64,
+    }
+}
+
+// 0, or why a view of the bytes holds nothing: the number of the first fault.
 pub fn view_refusal(bytes: &[u8]) -> u8
     ensures { λ r. ⌜ r ≡ viewRefusal (now (bytes .entry)) ⌝ }
 {
+    let first = first_fault(bytes);
+    first.number
+}
+
+// The first fault. 13: the year. 16: the length, or more than 255 cycles; fewer than 4 bytes before 13. 17: a body is not as described. 18:
+// an instant is not its body's, or does not rise. 19: an offset.
+pub fn first_fault(bytes: &[u8]) -> FirstFault
+    ensures { λ r. ⌜ r ≡ firstFault (now (bytes .entry)) ⌝ }
+{
     if bytes.len() < HEADER {
-        return refusal::WRONG_BOOK_LENGTH;
+        return fault_at(refusal::WRONG_BOOK_LENGTH, 0);
     }
     if !time_code::year::in_span(fields::year_said(bytes)) {
-        return refusal::YEAR_OUTSIDE_SPAN;
+        return fault_at(refusal::YEAR_OUTSIDE_SPAN, 0);
     }
     if !is_sized(bytes) {
-        return refusal::WRONG_BOOK_LENGTH;
+        return fault_at(refusal::WRONG_BOOK_LENGTH, 0);
     }
-    entries_refusal(bytes)
+    first_entry_fault(bytes)
 }
 
 // Whether the length is that of the number of cycles, and these are at most 255.
@@ -41,23 +64,26 @@ pub(crate) fn is_sized(bytes: &[u8]) -> bool
 }
 
 // 17, 18 or 19, of a book that has its length and a year of the span.
-fn entries_refusal(bytes: &[u8]) -> u8
+fn first_entry_fault(bytes: &[u8]) -> FirstFault
     requires { ⌜ Laid (now bytes) ⌝ }
-    ensures { λ r. ⌜ r ≡ viewRefusal (now (bytes .entry)) ⌝ }
+    ensures { λ r. ⌜ r ≡ firstFault (now (bytes .entry)) ⌝ }
 {
     let n = fields::cycles_said(bytes);
     let year = fields::year_said(bytes);
     let start = HEADER + ENTRY * n;
-    if first_bad_body(year, &bytes[start..], n) < n {
-        return refusal::NOT_A_CYCLE;
+    let body = first_bad_body(year, &bytes[start..], n);
+    if body < n {
+        return fault_at(refusal::NOT_A_CYCLE, body);
     }
-    if first_bad_instant(bytes, year, n) < n {
-        return refusal::WRONG_INSTANT;
+    let instant = first_bad_instant(bytes, year, n);
+    if instant < n {
+        return fault_at(refusal::WRONG_INSTANT, instant);
     }
-    if first_bad_offset(bytes, n) < n {
-        return refusal::WRONG_OFFSET;
+    let offset = first_bad_offset(bytes, n);
+    if offset < n {
+        return fault_at(refusal::WRONG_OFFSET, offset);
     }
-    0
+    fault_at(0, 0)
 }
 
 // The lowest of the n bodies end to end that is no cycle of the year; n where each is.

@@ -7,6 +7,8 @@ mod layout;
 mod parts;
 mod writing;
 
+pub use faults::FirstFault;
+pub use faults::first_fault;
 pub use faults::view_refusal;
 pub use layout::ENTRY;
 pub use layout::HEADER;
