@@ -1,0 +1,4 @@
+pub mod FirstByte
+pub mod Held
+pub mod Listing
+pub mod Merging
