@@ -2,7 +2,7 @@
 // refusal.
 
 use crate::bridge;
-use crate::codecs::{read_time, write_time, TICKS_A_DAY};
+use crate::codecs::{self, days, in_span, read_time, write_time, TICKS_A_DAY};
 use crate::entry::same;
 use crate::stream::Random;
 use crate::tally::{AREA, FRAME, FRAME_SYNC, NUMBER_PLACE};
@@ -25,16 +25,6 @@ fn number(bytes: &[u8]) -> u64 {
     bytes.iter().fold(0, |n, &b| n << 8 | u64::from(b))
 }
 
-fn in_span(year: u64) -> bool {
-    (1999..=2099).contains(&year)
-}
-
-// The instant of a time code of this year: only every fourth has a day 366.
-fn instant(code: &[u8], year: u64) -> Option<u64> {
-    let [_, instant] = read_time(code).ok()?;
-    (year % 4 == 0 || instant < 366 * TICKS_A_DAY).then_some(instant)
-}
-
 // Where in a body a place of major frame k's column is.
 fn column_place(k: usize, place: usize) -> usize {
     AREA * k + FRAME * place + WORD
@@ -49,7 +39,7 @@ fn cycle(body: &[u8], year: u64) -> Option<u64> {
     if !body.chunks_exact(FRAME).enumerate().all(whole) || (0..4).any(|k| usize::from(identifier(k)) != k) {
         return None;
     }
-    instant(&column(0)[96..103], year)
+    read_time(year, &column(0)[96..103]).ok().map(|[_, instant]| instant)
 }
 
 // The bytes of a book, whether or not these are cycles: instants stand where there are some.
@@ -71,9 +61,7 @@ fn write(year: u64, bodies: &[u8], out: usize) -> Result<Vec<u8>, u8> {
     if bodies.len() % BODY != 0 || out != size(cycles) {
         return Err(2);
     }
-    if !in_span(year) {
-        return Err(13);
-    }
+    in_span(year)?;
     if cycles > MOST {
         return Err(16);
     }
@@ -98,8 +86,8 @@ fn header(book: &[u8]) -> Result<[u64; 2], u8> {
 
 // The first fault, and the lowest entry that has it.
 fn fault(book: &[u8]) -> Result<(), (u8, usize)> {
-    if book.len() >= HEADER && !in_span(number(&book[2..4])) {
-        return Err((13, 0));
+    if book.len() >= HEADER {
+        in_span(number(&book[2..4])).map_err(|number| (number, 0))?;
     }
     let [cycles, year] = header(book).map_err(|number| (number, 0))?;
     let (entries, bodies) = book[HEADER..].split_at(ENTRY * cycles as usize);
@@ -179,15 +167,16 @@ fn put_column(body: &mut [u8], k: usize, bytes: &[u8]) {
     }
 }
 
+// In a leap year's writing, so that day 366 can be put too.
 fn put_instant(r: &mut Random, body: &mut [u8], instant: u64) {
-    if let Ok(code) = write_time(r.below(16) as u64, instant, 7) {
+    if let Ok(code) = write_time(2000, r.below(16) as u64, instant, 7) {
         put_column(body, 0, &code);
     }
 }
 
 // Bodies of a year whose instants rise by as little as they can, or by more.
 pub fn any_bodies(r: &mut Random, cycles: usize, year: u64) -> Vec<u8> {
-    let days = if year % 4 == 0 { 366 } else { 365 };
+    let days = days(year);
     let step = if r.one_in(3) { 1 } else { days * TICKS_A_DAY / 300 };
     // The last one may be the year's last.
     let last = (days + 1) * TICKS_A_DAY - 1 - if r.one_in(2) { 0 } else { r.next() % (days * TICKS_A_DAY / 10) };
@@ -246,8 +235,7 @@ fn spoil_body(r: &mut Random, bodies: &mut [u8], year: u64) {
 }
 
 fn any_year(r: &mut Random) -> u64 {
-    const EDGES: [u64; 10] = [0, 1998, 1999, 2000, 2099, 2100, 65_535, 65_536 + 2000, 1 << 63, u64::MAX];
-    if r.one_in(8) { EDGES[r.below(10)] } else { 1999 + r.below(101) as u64 }
+    if r.one_in(6) { codecs::any_year(r) } else { 1999 + r.below(101) as u64 }
 }
 
 fn write_trial(r: &mut Random, year: u64, bodies: &[u8], met: &mut Met) -> Result<(), String> {

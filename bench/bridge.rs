@@ -15,16 +15,24 @@ extern "C" {
     ) -> u8;
     fn pcd_write_lead_in(spacing: u64, out: *mut u8, out_len: usize) -> u8;
     fn pcd_write_minor_frame(spacing: u64, frame: *const u8, frame_len: usize, out: *mut u8, out_len: usize) -> u8;
-    fn pcd_decode_time(bytes: *const u8, bytes_len: usize, out: *mut [u64; 2]) -> u8;
-    fn pcd_encode_time(spacecraft: u64, instant: u64, out: *mut u8, out_len: usize) -> u8;
+    fn pcd_decode_time(year: u64, bytes: *const u8, bytes_len: usize, out: *mut [u64; 2]) -> u8;
+    fn pcd_encode_time(year: u64, spacecraft: u64, instant: u64, out: *mut u8, out_len: usize) -> u8;
     fn pcd_decode_number(bytes: *const u8, bytes_len: usize, out: *mut f64) -> u8;
     fn pcd_encode_number(x: f64, out: *mut u8, out_len: usize) -> u8;
     fn pcd_gather(area: *const u8, area_len: usize, column: *mut u8, column_len: usize) -> u8;
-    fn pcd_kind(column: *const u8, column_len: usize, out: *mut u64) -> u8;
+    fn pcd_kind(year: u64, column: *const u8, column_len: usize, out: *mut u64) -> u8;
     fn pcd_item_count(kind: u64, out: *mut u64) -> u8;
     fn pcd_describe(kind: u64, item: u64, out: *mut [u64; 3]) -> u8;
     fn pcd_part_refusal(column: *const u8, column_len: usize, kind: u64, item: u64) -> u8;
-    fn pcd_read(column: *const u8, column_len: usize, kind: u64, item: u64, out: *mut [u64; 9], number: *mut f64) -> u8;
+    fn pcd_read(
+        year: u64,
+        column: *const u8,
+        column_len: usize,
+        kind: u64,
+        item: u64,
+        out: *mut [u64; 9],
+        number: *mut f64,
+    ) -> u8;
     fn pcd_book_write(year: u64, bodies: *const u8, bodies_len: usize, out: *mut u8, out_len: usize) -> u8;
     fn pcd_book_view_refusal(book: *const u8, book_len: usize) -> u8;
     fn pcd_book_header(book: *const u8, book_len: usize, out: *mut [u64; 2]) -> u8;
@@ -88,12 +96,12 @@ pub fn write_minor_frame(spacing: u64, frame: &[u8], out: &mut [u8]) -> u8 {
     unsafe { pcd_write_minor_frame(spacing, frame.as_ptr(), frame.len(), out.as_mut_ptr(), out.len()) }
 }
 
-pub fn decode_time(bytes: &[u8], out: &mut [u64; 2]) -> u8 {
-    unsafe { pcd_decode_time(bytes.as_ptr(), bytes.len(), out) }
+pub fn decode_time(year: u64, bytes: &[u8], out: &mut [u64; 2]) -> u8 {
+    unsafe { pcd_decode_time(year, bytes.as_ptr(), bytes.len(), out) }
 }
 
-pub fn encode_time(spacecraft: u64, instant: u64, out: &mut [u8]) -> u8 {
-    unsafe { pcd_encode_time(spacecraft, instant, out.as_mut_ptr(), out.len()) }
+pub fn encode_time(year: u64, spacecraft: u64, instant: u64, out: &mut [u8]) -> u8 {
+    unsafe { pcd_encode_time(year, spacecraft, instant, out.as_mut_ptr(), out.len()) }
 }
 
 pub fn decode_number(bytes: &[u8], out: &mut f64) -> u8 {
@@ -108,8 +116,8 @@ pub fn gather(area: &[u8], column: &mut [u8]) -> u8 {
     unsafe { pcd_gather(area.as_ptr(), area.len(), column.as_mut_ptr(), column.len()) }
 }
 
-pub fn kind(column: &[u8], out: &mut u64) -> u8 {
-    unsafe { pcd_kind(column.as_ptr(), column.len(), out) }
+pub fn kind(year: u64, column: &[u8], out: &mut u64) -> u8 {
+    unsafe { pcd_kind(year, column.as_ptr(), column.len(), out) }
 }
 
 pub fn item_count(kind: u64, out: &mut u64) -> u8 {
@@ -124,8 +132,8 @@ pub fn part_refusal(column: &[u8], kind: u64, item: u64) -> u8 {
     unsafe { pcd_part_refusal(column.as_ptr(), column.len(), kind, item) }
 }
 
-pub fn read(column: &[u8], kind: u64, item: u64, out: &mut [u64; 9], number: &mut f64) -> u8 {
-    unsafe { pcd_read(column.as_ptr(), column.len(), kind, item, out, number) }
+pub fn read(year: u64, column: &[u8], kind: u64, item: u64, out: &mut [u64; 9], number: &mut f64) -> u8 {
+    unsafe { pcd_read(year, column.as_ptr(), column.len(), kind, item, out, number) }
 }
 
 pub fn find(instants: &[u64], wanted: u64, out: &mut [u64; 2]) -> u8 {

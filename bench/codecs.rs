@@ -1,5 +1,5 @@
-// The codecs of word 72's times and numbers once more, from paper 01, and the proved ones held to them. An answer is the bytes or the value,
-// or the number of the refusal.
+// The codecs of word 72's times and numbers once more, from paper 01 and paper 02's request 4, and the proved ones held to them. An answer is
+// the bytes or the value, or the number of the refusal.
 
 use crate::bridge;
 use crate::entry::{lent, same};
@@ -7,18 +7,39 @@ use crate::stream::Random;
 
 pub const TICKS_A_DAY: u64 = 24 * 60 * 60 * 1000 * 16;
 
+// A year of the span, or refusal 13.
+pub fn in_span(year: u64) -> Result<(), u8> {
+    if (1999..2100).contains(&year) { Ok(()) } else { Err(13) }
+}
+
+// Day 366 is good in a year that is divisible by 4.
+pub fn days(year: u64) -> u64 {
+    365 + u64::from(year & 3 == 0)
+}
+
+// A year of any sort: both ends of the span and what lies beside them, leap years and common ones, 2000 and 2100, any within, any number.
+pub fn any_year(r: &mut Random) -> u64 {
+    const YEARS: [u64; 10] = [1998, 1999, 2000, 2001, 2004, 2099, 2100, 0, u64::MAX, (1 << 32) + 2000];
+    match r.below(8) {
+        0..=2 => YEARS[r.below(10)],
+        3 => r.next(),
+        _ => 1999 + r.below(101) as u64,
+    }
+}
+
 // Spacecraft and instant.
-pub fn read_time(bytes: &[u8]) -> Result<[u64; 2], u8> {
+pub fn read_time(year: u64, bytes: &[u8]) -> Result<[u64; 2], u8> {
     if bytes.len() != 7 {
         return Err(2);
     }
+    in_span(year)?;
     let halves: Vec<u64> = bytes.iter().flat_map(|&b| [u64::from(b >> 4), u64::from(b & 15)]).collect();
     if halves[1..13].iter().any(|&digit| digit > 9) {
         return Err(8);
     }
     let number = |digits: &[u64]| digits.iter().fold(0, |n, digit| 10 * n + digit);
     let (day, hour, minute, second) = (number(&halves[1..4]), number(&halves[4..6]), number(&halves[6..8]), number(&halves[8..10]));
-    if day < 1 || day > 366 || hour > 23 || minute > 59 || second > 59 {
+    if day < 1 || day > days(year) || hour > 23 || minute > 59 || second > 59 {
         return Err(8);
     }
     let millisecond = number(&halves[10..13]);
@@ -26,11 +47,12 @@ pub fn read_time(bytes: &[u8]) -> Result<[u64; 2], u8> {
     Ok([halves[0], (seconds * 1000 + millisecond) * 16 + halves[13]])
 }
 
-pub fn write_time(spacecraft: u64, instant: u64, out: usize) -> Result<Vec<u8>, u8> {
+pub fn write_time(year: u64, spacecraft: u64, instant: u64, out: usize) -> Result<Vec<u8>, u8> {
     if out != 7 {
         return Err(2);
     }
-    if spacecraft > 15 || instant < TICKS_A_DAY || instant >= 367 * TICKS_A_DAY {
+    in_span(year)?;
+    if spacecraft > 15 || instant < TICKS_A_DAY || instant >= (days(year) + 1) * TICKS_A_DAY {
         return Err(8);
     }
     let (sixteenths, milliseconds) = (instant % 16, instant / 16);
@@ -85,22 +107,28 @@ fn write_number(x: f64, out: usize) -> Result<Vec<u8>, u8> {
 }
 
 fn time_trials(r: &mut Random) -> Result<(), String> {
-    const EDGES: [u64; 6] = [0, TICKS_A_DAY - 1, TICKS_A_DAY, 367 * TICKS_A_DAY - 1, 367 * TICKS_A_DAY, u64::MAX];
-    let instant = if r.one_in(6) { EDGES[r.below(6)] } else { r.next() % (368 * TICKS_A_DAY) };
+    const DAY: u64 = TICKS_A_DAY;
+    const EDGES: [u64; 9] =
+        [0, DAY - 1, DAY, 366 * DAY - 1, 366 * DAY, 366 * DAY + DAY / 2, 367 * DAY - 1, 367 * DAY, u64::MAX];
+    let year = any_year(r);
+    let instant = if r.one_in(3) { EDGES[r.below(9)] } else { r.next() % (368 * DAY) };
     let spacecraft = if r.one_in(8) { r.next() } else { r.below(17) as u64 };
     let old = lent(r, 7);
     let mut new = old.clone();
-    let number = bridge::encode_time(spacecraft, instant, &mut new);
-    same("encode_time", write_time(spacecraft, instant, old.len()), old, number, new.clone())?;
+    let number = bridge::encode_time(year, spacecraft, instant, &mut new);
+    same("encode_time", write_time(year, spacecraft, instant, old.len()), old, number, new.clone())
+        .map_err(|what| format!("{what}, for {spacecraft} and {instant} in {year}"))?;
 
     if r.one_in(2) && !new.is_empty() {
         let at = r.below(new.len());
         new[at] = r.byte();
     }
+    // By the year that it was written with, or by another.
+    let year = if r.one_in(2) { year } else { any_year(r) };
     let before = [r.next(), r.next()];
     let mut out = before;
-    let number = bridge::decode_time(&new, &mut out);
-    same("decode_time", read_time(&new), before, number, out).map_err(|what| format!("{what}, for {new:02X?}"))
+    let number = bridge::decode_time(year, &new, &mut out);
+    same("decode_time", read_time(year, &new), before, number, out).map_err(|what| format!("{what}, for {new:02X?} in {year}"))
 }
 
 fn number_trials(r: &mut Random) -> Result<(), String> {

@@ -1,8 +1,8 @@
-// Word 72 once more, from paper 01 and its tables 17 to 20: gathering, kinds, every item of every kind and what it reads as; and the proved
-// entries held to it. An answer is what is given, or the number of the refusal.
+// Word 72 once more, from paper 01, its tables 17 to 20 and paper 02's request 4: gathering, kinds, every item of every kind and what it reads
+// as; and the proved entries held to it. An answer is what is given, or the number of the refusal.
 
 use crate::bridge;
-use crate::codecs::{read_number, read_time, write_time, TICKS_A_DAY};
+use crate::codecs::{any_year, in_span, read_number, read_time, write_time, TICKS_A_DAY};
 use crate::entry::same;
 use crate::stream::Random;
 use crate::tally::{AREA, FRAME};
@@ -72,15 +72,16 @@ fn gathered(area: &[u8], column: usize) -> Result<Vec<u8>, u8> {
     Ok(area.chunks(FRAME).map(|frame| frame[PLACE]).collect())
 }
 
-fn kind_of(column: &[u8]) -> Result<u64, u8> {
+fn kind_of(year: u64, column: &[u8]) -> Result<u64, u8> {
     if column.len() != PLACES {
         return Err(2);
     }
+    in_span(year)?;
     let place = &column[96..104];
     if (1..=3).contains(&place[0]) && place.iter().all(|b| *b == place[0]) {
         return Ok(u64::from(place[0]));
     }
-    read_time(&place[..7]).map(|_| 0).map_err(|_| 6)
+    read_time(year, &place[..7]).map(|_| 0).map_err(|_| 6)
 }
 
 // The nine numbers as they cross, and the double of a number.
@@ -93,10 +94,11 @@ fn reading(form: Form, values: &[u64]) -> Reading {
     (numbers, None)
 }
 
-fn read(column: &[u8], kind: u64, item: u64) -> Result<Reading, u8> {
+fn read(year: u64, column: &[u8], kind: u64, item: u64) -> Result<Reading, u8> {
     if column.len() != PLACES {
         return Err(2);
     }
+    in_span(year)?;
     let item = item_of(kind, item)?;
     let bytes = &column[item.first..item.first + item.length];
     match item.form {
@@ -106,7 +108,7 @@ fn read(column: &[u8], kind: u64, item: u64) -> Result<Reading, u8> {
         // Bit 0 is the most significant, so the first digit.
         Flags => Ok(reading(Flags, &format!("{:08b}", bytes[0]).bytes().map(|d| u64::from(d - b'0')).collect::<Vec<u64>>())),
         Number => read_number(bytes).map(|x| (reading(Number, &[]).0, Some(x))),
-        Time => read_time(bytes).map(|time| reading(Time, &time)),
+        Time => read_time(year, bytes).map(|time| reading(Time, &time)),
         Fill => Ok(reading(Fill, &[])),
     }
 }
@@ -116,7 +118,9 @@ fn read(column: &[u8], kind: u64, item: u64) -> Result<Reading, u8> {
 pub struct Met {
     kinds: [u64; 4],
     readings: [u64; 6],
-    refused: [u64; 12],
+    refused: [u64; 14],
+    // Columns whose only claim to a kind is day 366 of a common year.
+    no_such_day: u64,
 }
 
 impl Met {
@@ -124,12 +128,19 @@ impl Met {
     pub fn cases(&self) -> Vec<(&'static str, u64)> {
         const KINDS: [&str; 4] = ["kind 0", "kind 1", "kind 2", "kind 3"];
         const FORMS: [(&str, Form); 5] = [("counts", Count), ("flags", Flags), ("numbers", Number), ("times", Time), ("fill", Fill)];
-        const REFUSALS: [(&str, usize); 6] =
-            [("refused 2", 2), ("refused 6", 6), ("refused 7", 7), ("refused 8", 8), ("refused 9", 9), ("refused 10", 10)];
+        const REFUSALS: [(&str, usize); 7] = [
+            ("refused 2", 2),
+            ("refused 13", 13),
+            ("refused 6", 6),
+            ("refused 7", 7),
+            ("refused 8", 8),
+            ("refused 9", 9),
+            ("refused 10", 10),
+        ];
         let kinds = KINDS.iter().copied().zip(self.kinds);
         let readings = FORMS.iter().map(|&(name, form)| (name, self.readings[form as usize]));
         let refused = REFUSALS.iter().map(|&(name, number)| (name, self.refused[number]));
-        kinds.chain(readings).chain(refused).collect()
+        kinds.chain(readings).chain(refused).chain([("no day 366", self.no_such_day)]).collect()
     }
 }
 
@@ -177,13 +188,14 @@ fn put_item(r: &mut Random, item: Item, bytes: &mut [u8]) {
         [0xC0, 0, 0, 0, 0, 0],
         [0x3F, 0xFF, 0xFF, 0, 0xFF, 0xFF],
     ];
-    const INSTANTS: [u64; 4] = [TICKS_A_DAY, 2 * TICKS_A_DAY - 1, 100 * TICKS_A_DAY, 367 * TICKS_A_DAY - 1];
+    const INSTANTS: [u64; 5] = [TICKS_A_DAY, 2 * TICKS_A_DAY - 1, 100 * TICKS_A_DAY, 366 * TICKS_A_DAY, 367 * TICKS_A_DAY - 1];
     r.fill(bytes);
     match item.form {
         Number if r.one_in(2) => bytes.copy_from_slice(&WORDS[r.below(8)]),
         Time => {
-            let instant = if r.one_in(2) { INSTANTS[r.below(4)] } else { TICKS_A_DAY + r.next() % (366 * TICKS_A_DAY) };
-            if let Ok(code) = write_time(r.below(16) as u64, instant, bytes.len()) {
+            let instant = if r.one_in(2) { INSTANTS[r.below(5)] } else { TICKS_A_DAY + r.next() % (366 * TICKS_A_DAY) };
+            // Days 1 to 366, as a leap year has them.
+            if let Ok(code) = write_time(2000, r.below(16) as u64, instant, bytes.len()) {
                 bytes.copy_from_slice(&code);
             }
         }
@@ -198,7 +210,7 @@ fn put_item(r: &mut Random, item: Item, bytes: &mut [u8]) {
 }
 
 // All entries on one item of a column, which is of any length.
-fn item_trial(r: &mut Random, column: &[u8], kind: u64, item: u64, met: &mut Met) -> Result<(), String> {
+fn item_trial(r: &mut Random, year: u64, column: &[u8], kind: u64, item: u64, met: &mut Met) -> Result<(), String> {
     let found = item_of(kind, item);
     let lent = [r.next(), r.next(), r.next()];
     let mut left = lent;
@@ -213,8 +225,8 @@ fn item_trial(r: &mut Random, column: &[u8], kind: u64, item: u64, met: &mut Met
 
     let (lent, lent_double) = ([r.next(); 9], 0.375f64);
     let (mut left, mut double) = (lent, lent_double);
-    let number = bridge::read(column, kind, item, &mut left, &mut double);
-    let wanted = read(column, kind, item);
+    let number = bridge::read(year, column, kind, item, &mut left, &mut double);
+    let wanted = read(year, column, kind, item);
     match wanted {
         Ok((values, _)) => met.readings[values[0] as usize] += 1,
         Err(number) => met.refused[number as usize] += 1,
@@ -223,11 +235,12 @@ fn item_trial(r: &mut Random, column: &[u8], kind: u64, item: u64, met: &mut Met
     same("read", wanted, (lent, lent_double.to_bits()), number, (left, double.to_bits()))
 }
 
-fn kind_trial(r: &mut Random, column: &[u8], met: &mut Met) -> Result<(), String> {
+fn kind_trial(r: &mut Random, year: u64, column: &[u8], met: &mut Met) -> Result<(), String> {
     let lent = r.next();
     let mut left = lent;
-    let number = bridge::kind(column, &mut left);
-    let wanted = kind_of(column);
+    let number = bridge::kind(year, column, &mut left);
+    let wanted = kind_of(year, column);
+    met.no_such_day += u64::from(wanted == Err(6) && kind_of(2000, column) == Ok(0));
     match wanted {
         Ok(kind) => met.kinds[kind as usize] += 1,
         Err(number) => met.refused[number as usize] += 1,
@@ -242,14 +255,18 @@ fn count_trial(r: &mut Random, kind: u64) -> Result<(), String> {
     same("item_count", items(kind).map(|items| items.len() as u64), lent, number, left)
 }
 
-// The column's kind, and every item of every kind, and some that there are not.
+// The column's kind in some years, and every item of every kind, and some that there are not.
 fn column_trial(r: &mut Random, column: &[u8], met: &mut Met) -> Result<(), String> {
-    kind_trial(r, column, met).map_err(|what| format!("{what}, for the column {column:02X?}"))?;
+    for year in [2000, 2001, any_year(r), any_year(r)] {
+        kind_trial(r, year, column, met).map_err(|what| format!("{what}, for the column {column:02X?} in {year}"))?;
+    }
+    let year = any_year(r);
     for kind in [0, 1, 2, 3, 4, r.next(), u64::MAX] {
         count_trial(r, kind).map_err(|what| format!("{what}, for kind {kind}"))?;
         let count = items(kind).map_or(0, |items| items.len() as u64);
         for item in (0..count + 2).chain([255, 256, r.next(), u64::MAX]) {
-            item_trial(r, column, kind, item, met).map_err(|what| format!("{what}, for kind {kind}, item {item} of {column:02X?}"))?;
+            item_trial(r, year, column, kind, item, met)
+                .map_err(|what| format!("{what}, for kind {kind}, item {item} of {column:02X?} in {year}"))?;
         }
     }
     Ok(())

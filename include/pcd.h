@@ -5,7 +5,8 @@
  *     cc -I include program.c target/staticlib/libbridge.a
  *
  * Every function but pcd_fresh, which refuses nothing, returns the number of its refusal, 0 for none. A refused call leaves all lent memory
- * as it was. Where several refusals apply, the lowest number is given; but 4 goes before 2 where a length depends on the spacing.
+ * as it was. Where several refusals apply, the lowest number is given; but 4 goes before 2 where a length depends on the spacing, and
+ * 13 before 6.
  *
  * What a caller owes: each pointer leads to as many elements as its array or its count says, none is NULL (with a count of 0 too), and
  * no two of them overlap. Everything else is tested. Nothing is kept between calls but what the caller lends.
@@ -36,6 +37,7 @@ extern "C" {
 #define PCD_NOT_NORMALISED 10    /* a six-byte number is not normalised */
 #define PCD_NO_WORD_FOR_DOUBLE 11 /* a double has no six-byte word */
 #define PCD_LIST_TOO_LONG 12     /* a list of instants is longer than 100,000 */
+#define PCD_YEAR_OUTSIDE_SPAN 13 /* a year is outside 1999 to 2099; given before 6 */
 #define PCD_WRONG_BOOK_LENGTH 16 /* a book has another length than its cycles make, or more than 255 of them */
 #define PCD_NOT_A_CYCLE 17       /* a body is not four major frames of kinds 0 to 3 of whole minor frames */
 #define PCD_WRONG_INSTANT 18     /* an entry's instant is not its body's, or is no later than the one before */
@@ -110,8 +112,9 @@ uint8_t pcd_write_minor_frame(uint64_t spacing, const uint8_t *frame, size_t fra
 /* Puts place 72 of each minor frame of an area of PCD_MAJOR_FRAME bytes into a column of PCD_COLUMN. Refused: 2, either length. */
 uint8_t pcd_gather(const uint8_t *area, size_t area_len, uint8_t *column, size_t column_len);
 
-/* The kind of a column, 0 to 3. Refused: 2; 6, it has none. */
-uint8_t pcd_kind(const uint8_t *column, size_t column_len, uint64_t *out);
+/* The kind of a column recorded in a year, 0 to 3. Refused: 2; 13; 6, it has none. A time code of day 366 makes kind 0 only in a year that is
+ * divisible by 4. */
+uint8_t pcd_kind(uint64_t year, const uint8_t *column, size_t column_len, uint64_t *out);
 
 /* How many items a kind has. Refused: 6. */
 uint8_t pcd_item_count(uint64_t kind, uint64_t *out);
@@ -125,19 +128,20 @@ uint8_t pcd_describe(uint64_t kind, uint64_t item, uint64_t out[3]);
 /* Whether an item's bytes can be had from a column; pcd_describe says where they lie. Refused: 2, 6, 7. */
 uint8_t pcd_part_refusal(const uint8_t *column, size_t column_len, uint64_t kind, uint64_t item);
 
-/* What an item of a column reads as. out[0] is the form that it is read by: PCD_COUNT for a 12-bit item too, PCD_ZERO_FILL for one too long
+/* What an item of a column recorded in a year reads as. out[0] is the form that it is read by: PCD_COUNT for a 12-bit item too, PCD_ZERO_FILL for one too long
  * for a count. Then its values: a count; eight flags, the most significant bit first; spacecraft and instant. The rest of out is 0. A
- * PCD_DOUBLE goes to number, which otherwise stays. Refused: 2, 6, 7, and by the item's form 8, 9 or 10. */
-uint8_t pcd_read(const uint8_t *column, size_t column_len, uint64_t kind, uint64_t item, uint64_t out[9], double *number);
+ * PCD_DOUBLE goes to number, which otherwise stays. Refused: 2; 13, whatever the item; 6, 7, and by the item's form 8, 9 or 10. */
+uint8_t pcd_read(uint64_t year, const uint8_t *column, size_t column_len, uint64_t kind, uint64_t item, uint64_t out[9], double *number);
 
 /* ---- The codecs of word 72 */
 
-/* Reads a time code of PCD_TIME bytes: out gets the spacecraft, 0 to 15, and the instant, in sixteenths of a millisecond, day * 24 hours and
- * on down. Refused: 2, 8. */
-uint8_t pcd_decode_time(const uint8_t *bytes, size_t bytes_len, uint64_t out[2]);
+/* Reads a time code of PCD_TIME bytes in a year: out gets the spacecraft, 0 to 15, and the instant, in sixteenths of a millisecond, day * 24 hours and
+ * on down. Refused: 2; 13; 8, a digit or a field is out of range, as day 366 is in a year that is not divisible by 4. */
+uint8_t pcd_decode_time(uint64_t year, const uint8_t *bytes, size_t bytes_len, uint64_t out[2]);
 
-/* Writes the PCD_TIME bytes of a spacecraft and an instant. Refused: 2; 8, a spacecraft above 15 or an instant outside days 1 to 366. */
-uint8_t pcd_encode_time(uint64_t spacecraft, uint64_t instant, uint8_t *out, size_t out_len);
+/* Writes the PCD_TIME bytes of a spacecraft and an instant of a year. Refused: 2; 13; 8, a spacecraft above 15 or an instant outside days 1 to
+ * the year's last. */
+uint8_t pcd_encode_time(uint64_t year, uint64_t spacecraft, uint64_t instant, uint8_t *out, size_t out_len);
 
 /* Reads a number of PCD_NUMBER bytes, exactly. Refused: 2, 10. */
 uint8_t pcd_decode_number(const uint8_t *bytes, size_t bytes_len, double *out);

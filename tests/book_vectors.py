@@ -25,12 +25,12 @@ import struct
 from datetime import datetime
 
 from stored import checksum, keep
+import years
 
 CRATE = os.path.join("crates", "book_vectors")
 MINOR, BODY, ENTRY, HEADER = 128, 65536, 12, 4
 SYNC = b"\xFA\xF3\x20"
 NUMBER, WORD = 65, 72
-YEARS = range(1999, 2100)
 MOST = 255
 ROOM = 32 * BODY + 128, 4 + 32 * (ENTRY + BODY) + 128
 
@@ -93,7 +93,7 @@ def written(year, bodies, length):
     cycles, rest = divmod(len(bodies), BODY)
     if rest or length != size(cycles):
         return 2, None
-    if year not in YEARS:
+    if not years.in_span(year):
         return 13, None
     if cycles > MOST:
         return 16, None
@@ -118,7 +118,7 @@ def fault(book):
     """The number that refuses a view of the book, 0 for none."""
     if len(book) < HEADER:
         return 16
-    if struct.unpack(">H", book[2:HEADER])[0] not in YEARS:
+    if not years.in_span(struct.unpack(">H", book[2:HEADER])[0]):
         return 13
     if fits(book) is None:
         return 16
@@ -233,7 +233,6 @@ class Bench:
 # ---- The vectors
 
 LARGE = (1 << 16, 1 << 32, 1 << 63, (1 << 64) - 1)
-EDGE_YEARS = (0, 1998, 1999, 2000, 2098, 2099, 2100, 65535, 65536 + 2000, (1 << 32) + 2004, (1 << 64) - 1)
 
 
 def code(day, clock="00:00:00.000", spacecraft=7, sixteenth=0):
@@ -246,7 +245,7 @@ def no_cycles(bench):
     for n in range(7):
         bench.view(n)
         bench.parts(n, 0)
-    for year in EDGE_YEARS:
+    for year in years.INSIDE + years.OUTSIDE:
         bench.fill_book(8, 0x11)
         bench.write(0, year, 4)
         bench.view(4)

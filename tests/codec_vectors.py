@@ -2,46 +2,52 @@
 """Vectors for the time code and the six-byte number, with the answers of an independent implementation.
 
 Run from the repository's root: python3 tests/codec_vectors.py
-It writes crates/codec_vectors/stdin (records of 24 bytes) and crates/codec_vectors/stdout (a line for each).
+It writes crates/codec_vectors/stdin (records of 32 bytes) and crates/codec_vectors/stdout (a line for each).
 With --check it writes nothing and says whether the stored files are what it would write.
 
-A record: the operation, the length of the lent slice, then 22 bytes of operands, zero-padded.
+A record: the operation, the length of the lent slice, the year (8 bytes, first byte highest; 0 where none is asked for), then 22 bytes of
+operands, zero-padded.
   1  read a time code         the bytes
   2  write a time code        spacecraft (8 bytes, first byte highest), instant (8 bytes)
   3  read a six-byte number   the bytes
   4  write a six-byte number  the double's bits (8 bytes)
 A slice that is written to holds A5 hex before the call, and the line shows all of it afterwards.
 
-The answers are worked out from paper 01 by other means than the library's: a time code as a string of digits, a number as an
-exact fraction, and the word of a double by trying every exponent."""
+The answers are worked out from the papers by other means than the library's: a time code as a string of digits, a year's last day by the
+calendar, a number as an exact fraction, and the word of a double by trying every exponent."""
 import os
 import random
 import struct
 from fractions import Fraction
 import stored
+from years import INSIDE, OUTSIDE, in_span, last_day
 
 CRATE = os.path.join("crates", "codec_vectors")
 DAY = 24 * 3600 * 1000 * 16
 
 
-def read_time(code):
+def read_time(year, code):
     if len(code) != 7:
         return "refused 2"
+    if not in_span(year):
+        return "refused 13"
     text = code.hex()
     if not text[1:13].isdigit():
         return "refused 8"
     day, hour, minute, second, milli = (int(text[a:b]) for a, b in ((1, 4), (4, 6), (6, 8), (8, 10), (10, 13)))
-    if not (1 <= day <= 366 and hour < 24 and minute < 60 and second < 60):
+    if not (1 <= day <= last_day(year) and hour < 24 and minute < 60 and second < 60):
         return "refused 8"
     seconds = day * 86400 + hour * 3600 + minute * 60 + second
     return "time %d %d" % (int(text[0], 16), (seconds * 1000 + milli) * 16 + int(text[13], 16))
 
 
-def write_time(spacecraft, instant, length):
+def write_time(year, spacecraft, instant, length):
     untouched = "[%s] refused " % ("a5" * length)
     if length != 7:
         return untouched + "2"
-    if spacecraft > 15 or not DAY <= instant < 367 * DAY:
+    if not in_span(year):
+        return untouched + "13"
+    if spacecraft > 15 or not DAY <= instant < (last_day(year) + 1) * DAY:
         return untouched + "8"
     millis, sixteenth = divmod(instant, 16)
     seconds, milli = divmod(millis, 1000)
@@ -96,33 +102,47 @@ def good_code(rng):
     return bytes.fromhex("%x%03d%02d%02d%02d%03d%x" % parts)
 
 
+def any_year(rng):
+    return rng.choice(OUTSIDE if rng.randrange(8) == 0 else INSIDE + (rng.randint(1999, 2099),))
+
+
 def time_codes(rng):
-    yield bytes.fromhex("7123045607890f")
-    for first in ("7000", "7001", "7366", "7367", "7399", "f366", "0001"):
-        yield bytes.fromhex(first + "0000000000")
+    """Years and codes: the last days of every year among them, and which refusal comes first."""
+    for year in INSIDE + OUTSIDE:
+        yield year, bytes.fromhex("7123045607890f")
+        for first in ("7000", "7001", "7365", "7366", "7367", "7399", "f366", "0001"):
+            yield year, bytes.fromhex(first + "0000000000")
+        yield year, bytes.fromhex("73662359599999")
+        yield year, bytes.fromhex("7a66000000000f")
+        for n in (0, 1, 6, 8, 22):
+            yield year, bytes(rng.randrange(256) for _ in range(n))
+    for year in range(1997, 2103):
+        yield year, bytes.fromhex("73662359599999")
     for code in ("71232400000000", "71230060000000", "71230000600000", "71232359599999", "712323595999ff"):
-        yield bytes.fromhex(code)
-    for n in (0, 1, 6, 8, 22):
-        yield bytes(rng.randrange(256) for _ in range(n))
+        yield 2000, bytes.fromhex(code)
     for _ in range(300):
-        yield good_code(rng)
+        yield any_year(rng), good_code(rng)
     for _ in range(300):
         broken = bytearray(good_code(rng))
         broken[rng.randrange(7)] = rng.randrange(256)
-        yield bytes(broken)
+        yield any_year(rng), bytes(broken)
     for _ in range(40):
-        yield bytes(rng.randrange(256) for _ in range(7))
+        yield any_year(rng), bytes(rng.randrange(256) for _ in range(7))
 
 
 def instants(rng):
-    for instant in (0, DAY - 1, DAY, DAY + 1, 366 * DAY, 367 * DAY - 1, 367 * DAY, (1 << 64) - 1, 170319486255):
-        for spacecraft in (0, 7, 15, 16, 256, (1 << 64) - 1):
-            yield spacecraft, instant, 7
-    for length in (0, 6, 8, 22):
-        yield 7, 170319486255, length
-        yield 16, 0, length
+    for year in (2000, 2001):
+        for instant in (0, DAY - 1, DAY, DAY + 1, 366 * DAY - 1, 366 * DAY, 367 * DAY - 1, 367 * DAY, (1 << 64) - 1, 170319486255):
+            for spacecraft in (0, 7, 15, 16, 256, (1 << 64) - 1):
+                yield year, spacecraft, instant, 7
+    for year in INSIDE + OUTSIDE:
+        for instant in (366 * DAY - 1, 366 * DAY, 367 * DAY - 1, 367 * DAY):
+            yield year, 7, instant, 7
+        for length in (0, 6, 8, 22):
+            yield year, 7, 170319486255, length
+            yield year, 16, 0, length
     for _ in range(300):
-        yield rng.randrange(18), rng.randrange(370 * DAY), 7
+        yield any_year(rng), rng.randrange(18), rng.randrange(370 * DAY), 7
 
 
 def words(rng):
@@ -167,21 +187,21 @@ def doubles(rng):
 
 def records():
     rng = random.Random(1750)
-    for code in time_codes(rng):
-        yield 1, len(code), code, read_time(code)
-    for spacecraft, instant, length in instants(rng):
-        yield 2, length, struct.pack(">QQ", spacecraft, instant), write_time(spacecraft, instant, length)
+    for year, code in time_codes(rng):
+        yield 1, len(code), year, code, read_time(year, code)
+    for year, spacecraft, instant, length in instants(rng):
+        yield 2, length, year, struct.pack(">QQ", spacecraft, instant), write_time(year, spacecraft, instant, length)
     for word in words(rng):
-        yield 3, len(word), word, read_number(word)
+        yield 3, len(word), 0, word, read_number(word)
     for bits, length in doubles(rng):
-        yield 4, length, struct.pack(">Q", bits), write_number(bits, length)
+        yield 4, length, 0, struct.pack(">Q", bits), write_number(bits, length)
 
 
 def main():
     rows = list(records())
     files = {
-        "stdin": b"".join(bytes((op, length)) + operands.ljust(22, b"\0") for op, length, operands, _ in rows),
-        "stdout": "".join(line + "\n" for _, _, _, line in rows).encode(),
+        "stdin": b"".join(bytes((op, length)) + struct.pack(">Q", year) + operands.ljust(22, b"\0") for op, length, year, operands, _ in rows),
+        "stdout": "".join(line + "\n" for _, _, _, _, line in rows).encode(),
     }
     stored.keep(CRATE, files)
     print(len(rows), "vectors")

@@ -5,7 +5,8 @@ Run from the repository's root: python3 tests/word72_vectors.py
 It writes crates/subcom_vectors/stdin and crates/subcom_vectors/stdout.
 With --check it writes nothing and says whether the stored files are what it would write.
 
-A record is 32 bytes: the operation, seven zero bytes, then a, b and c of eight bytes each, first byte highest.
+A record is 40 bytes: the operation, seven zero bytes, then a, b, c and the year of eight bytes each, first byte highest. The year is that of
+4, 5 and 6, and 0 elsewhere.
   1  load an area      the 16,384 bytes that follow go to the front of the area buffer
   2  load a column     the 128 bytes that follow go to the front of the column buffer
   3  gather            of the first a bytes of the area buffer into the first b bytes of the column buffer
@@ -16,7 +17,7 @@ Answers: gather writes its number and the whole column buffer, so that a refused
 item its kind, number, form, first place, length, bytes and reading; ask writes the refusal of the part, its bytes and the reading.
 
 The items are derived from the book's tables (tests/word72_items.py). The readings are worked out by other means than the library's: a
-time code as a string of digits, a number as an exact fraction, flags as a string of binary digits."""
+time code as a string of digits, a year's last day by the calendar, a number as an exact fraction, flags as a string of binary digits."""
 import os
 import random
 import struct
@@ -24,19 +25,21 @@ from fractions import Fraction
 
 from word72_items import items
 import stored
+from years import INSIDE, OUTSIDE, in_span, last_day
 
 CRATE = os.path.join("crates", "subcom_vectors")
 AREA, COLUMN, ROOM = 16384, 128, 160
 ITEMS = items()
+LEAP = 2000
 LARGE = (4, 5, 255, 256, 257, 1 << 32, (1 << 64) - 1)
 
 
-def read_time(code):
+def read_time(year, code):
     text = code.hex()
     if not text[1:13].isdigit():
         return None
     day, hour, minute, second, milli = (int(text[a:b]) for a, b in ((1, 4), (4, 6), (6, 8), (8, 10), (10, 13)))
-    if not (1 <= day <= 366 and hour < 24 and minute < 60 and second < 60):
+    if not (1 <= day <= last_day(year) and hour < 24 and minute < 60 and second < 60):
         return None
     seconds = day * 86400 + hour * 3600 + minute * 60 + second
     return int(text[0], 16), (seconds * 1000 + milli) * 16 + int(text[13], 16)
@@ -54,7 +57,10 @@ def read_number(word):
     return float(exact)
 
 
-def read_bytes(form, data):
+def read_bytes(year, form, data):
+    """What bytes read as, in any year: one outside the span is refused whatever the form."""
+    if not in_span(year):
+        return "refused 13"
     if form == "fill":
         return "fill"
     if form == "flags":
@@ -66,7 +72,7 @@ def read_bytes(form, data):
         number = read_number(data)
         return "refused 10" if number is None else "number " + struct.pack(">d", number).hex()
     if form == "time":
-        time = read_time(data)
+        time = read_time(year, data)
         return "refused 8" if time is None else "time %d %d" % time
     return "count %d" % int(data.hex(), 16) if len(data) <= 8 else "fill"
 
@@ -87,33 +93,36 @@ def bytes_of(item, column):
     return column[item.first:item.first + item.length]
 
 
-def say_ask(column, kind, number):
+def say_ask(year, column, kind, number):
+    """The part takes no year; in reading, 13 comes after 2 and before 6 and 7."""
     refused = refusal(column, kind, number)
     if refused:
-        return "%d [] refused %d" % (refused, refused)
+        return "%d [] refused %d" % (refused, refused if refused == 2 or in_span(year) else 13)
     item = the_item(kind, number)
     data = bytes_of(item, column)
-    return "0 [%s] %s" % (data.hex(), read_bytes(item.form, data))
+    return "0 [%s] %s" % (data.hex(), read_bytes(year, item.form, data))
 
 
-def say_list(column, kind):
+def say_list(year, column, kind):
     if kind > 3:
         return ["refused 6"]
     lines = []
     for i in ITEMS:
         if i.kind == kind:
             data = bytes_of(i, column)
-            lines.append("%d %d %s %d %d [%s] %s" % (i.kind, i.number, i.form, i.first, i.length, data.hex(), read_bytes(i.form, data)))
+            lines.append("%d %d %s %d %d [%s] %s" % (i.kind, i.number, i.form, i.first, i.length, data.hex(), read_bytes(year, i.form, data)))
     return lines
 
 
-def say_kind(column):
+def say_kind(year, column):
     if len(column) != COLUMN:
         return "refused 2"
+    if not in_span(year):
+        return "refused 13"
     marks = set(column[96:104])
     if len(marks) == 1 and marks <= {1, 2, 3}:
         return "kind %d" % marks.pop()
-    return "refused 6" if read_time(bytes(column[96:103])) is None else "kind 0"
+    return "refused 6" if read_time(year, bytes(column[96:103])) is None else "kind 0"
 
 
 class Bench:
@@ -123,8 +132,8 @@ class Bench:
         self.area, self.column = bytearray(16640), bytearray(ROOM)
         self.input, self.lines = bytearray(), []
 
-    def record(self, operation, a=0, b=0, c=0):
-        self.input += bytes((operation,)) + bytes(7) + struct.pack(">QQQ", a, b, c)
+    def record(self, operation, a=0, b=0, c=0, year=0):
+        self.input += bytes((operation,)) + bytes(7) + struct.pack(">QQQQ", a, b, c, year)
 
     def load_area(self, data):
         self.record(1)
@@ -143,17 +152,17 @@ class Bench:
             self.column[:COLUMN] = self.area[72:AREA:128]
         self.lines.append("%d %s" % (answer, self.column.hex()))
 
-    def kind(self, a=COLUMN):
-        self.record(4, a)
-        self.lines.append(say_kind(self.column[:a]))
+    def kind(self, a=COLUMN, year=LEAP):
+        self.record(4, a, year=year)
+        self.lines.append(say_kind(year, self.column[:a]))
 
-    def list(self, kind):
-        self.record(5, kind)
-        self.lines += say_list(self.column[:COLUMN], kind)
+    def list(self, kind, year=LEAP):
+        self.record(5, kind, year=year)
+        self.lines += say_list(year, self.column[:COLUMN], kind)
 
-    def ask(self, kind, number, length=COLUMN):
-        self.record(6, kind, number, length)
-        self.lines.append(say_ask(self.column[:length], kind, number))
+    def ask(self, kind, number, length=COLUMN, year=LEAP):
+        self.record(6, kind, number, length, year)
+        self.lines.append(say_ask(year, self.column[:length], kind, number))
 
 
 GOOD_NUMBERS = ("400000010000", "800000000000", "a00000000000", "000000000000", "7fffff7fffff", "bfffff80ffff", "400000800000")
@@ -254,12 +263,41 @@ def kinds(bench, rng):
         bench.kind()
 
 
+def years(bench, rng):
+    """Day 366 and the days beside it in years of every sort: the kind of such a column, and its items whatever they are; and which refusal
+    comes first where the year is outside the span."""
+    for day in (365, 366, 367):
+        column = bytearray(column_of(rng, 0, good))
+        column[96:103] = bytes.fromhex("7%03d235959999f" % day)
+        bench.load_column(bytes(column))
+        for year in INSIDE + OUTSIDE:
+            bench.kind(year=year)
+    number = next(i.number for i in ITEMS if i.kind == 0 and i.form == "time")
+    for kind in range(4):
+        column = bytearray(column_of(rng, kind, good))
+        if kind == 0:
+            column[96:103] = bytes.fromhex("73662359599999")
+        bench.load_column(bytes(column))
+        for year in INSIDE + OUTSIDE:
+            bench.kind(year=year)
+            bench.ask(0, number, year=year)
+        for year in (2001, 2100):
+            bench.list(kind, year=year)
+    for year in (1998, 2100, (1 << 32) + 2000):
+        for length in (COLUMN - 1, COLUMN):
+            bench.kind(length, year=year)
+            for kind, item in ((0, 0), (4, 0), (0, 999), (9, 999), (0, number)):
+                bench.ask(kind, item, length, year=year)
+        bench.list(4, year=year)
+
+
 def main():
     rng = random.Random(72)
     bench = Bench()
     cycle(bench, rng)
     refusals(bench, rng)
     kinds(bench, rng)
+    years(bench, rng)
     files = {"stdin": bytes(bench.input), "stdout": "".join(line + "\n" for line in bench.lines).encode()}
     stored.keep(CRATE, files)
     print(len(bench.lines), "lines")

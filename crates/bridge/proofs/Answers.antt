@@ -11,9 +11,9 @@ use Rattle.float1750.specs.Codec.{numberOf as numberRefused}
 use Rattle.float1750.specs.Promise.{DecodePromise as NumberPromise}
 use Rattle.bridge.specs.LentPlaces.{timeOr, numberOr, TimeCrossed, NumberCrossed}
 
-pub time-crossed : (bytes : List ℕ) (d a : TimeDecoded) (old : List ℕ) → TimePromise bytes d → d ≡ a
-    → TimeCrossed bytes (timeRefused a) old (timeOr a old)
-time-crossed bytes d a old p e = record {
+pub time-crossed : (year : ℕ) (bytes : List ℕ) (d a : TimeDecoded) (old : List ℕ) → TimePromise year bytes d → d ≡ a
+    → TimeCrossed year bytes (timeRefused a) old (timeOr a old)
+time-crossed year bytes d a old p e = record {
   refusal-is = sym (ap timeRefused e) ∙ p .refusal-is;
   time-is = ap (λ (x : TimeDecoded). timeOr x old) (sym e ∙ p .answer);
 }

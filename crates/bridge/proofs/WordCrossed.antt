@@ -28,11 +28,11 @@ module _ {A B : Type 0} (put : A → B) (old : B) where
   crossed : (l m : List A) (ls : List Line) (v : A) → l ≡ m → l ≡ answered (λ n. []) ls (v ∷ []) → putOr m ≡ answered (λ n. old) ls (put v)
   crossed l m ls v e p = ap putOr (sym e ∙ p) ∙ answered-of putOr (λ n. []) ls (v ∷ [])
 
-pub kind-crossed : (column : List ℕ) (r a : ColumnKind) (old : ℕ) → KindPromise column r → r ≡ a
-    → KindCrossed column (kindNumber a) old (putOr (λ k. k) old (kindsOf a))
-kind-crossed column r a old p e = record {
+pub kind-crossed : (year : ℕ) (column : List ℕ) (r a : ColumnKind) (old : ℕ) → KindPromise year column r → r ≡ a
+    → KindCrossed year column (kindNumber a) old (putOr (λ k. k) old (kindsOf a))
+kind-crossed year column r a old p e = record {
   refusal-is = sym (ap kindNumber e) ∙ p .refusal-is;
-  kind-is = crossed (λ k. k) old _ _ (kindLines column) _ (ap kindsOf e) (p .kind-is);
+  kind-is = crossed (λ k. k) old _ _ (kindLines year column) _ (ap kindsOf e) (p .kind-is);
 }
 
 pub count-crossed : (kind : ℕ) (r a : ItemCount) (old : ℕ) → CountPromise kind r → r ≡ a
@@ -49,10 +49,10 @@ describe-crossed kind item r a old p e = record {
   item-is = crossed itemNumbers old _ _ (itemLines kind item) _ (ap itemsIn e) (p .item-is);
 }
 
-pub read-crossed : (column : List ℕ) (kind item : ℕ) (r a : Reading) (old : List ℕ) (x : Float) → ReadPromise column kind item r → r ≡ a
-    → ReadCrossed column kind item (readingNumber a) old (putOr valueNumbers old (valuesOf a)) x (putOr (doubleOr x) x (valuesOf a))
-read-crossed column kind item r a old x p e = record {
+pub read-crossed : (year : ℕ) (column : List ℕ) (kind item : ℕ) (r a : Reading) (old : List ℕ) (x : Float) → ReadPromise year column kind item r → r ≡ a
+    → ReadCrossed year column kind item (readingNumber a) old (putOr valueNumbers old (valuesOf a)) x (putOr (doubleOr x) x (valuesOf a))
+read-crossed year column kind item r a old x p e = record {
   refusal-is = sym (ap readingNumber e) ∙ p .refusal-is;
-  values-are = crossed valueNumbers old _ _ (readLines column kind item) _ (ap valuesOf e) (p .value-is);
-  double-is = crossed (doubleOr x) x _ _ (readLines column kind item) _ (ap valuesOf e) (p .value-is);
+  values-are = crossed valueNumbers old _ _ (readLines year column kind item) _ (ap valuesOf e) (p .value-is);
+  double-is = crossed (doubleOr x) x _ _ (readLines year column kind item) _ (ap valuesOf e) (p .value-is);
 }

@@ -24,10 +24,10 @@ abbrev pub numberOr : NumberDecoded → Float → Float
 numberOr (Number x) old = x
 numberOr (NoNumber n) old = old
 
--- `pcd_decode_time` of these bytes returns r; its lent place is old before and new after it
-pub record TimeCrossed (bytes : List ℕ) (r : ℕ) (old new : List ℕ) : Type 0 where
-  pub refusal-is : r ≡ timeRefusal bytes
-  pub time-is : new ≡ timeOr (timeDecoded bytes) old
+-- `pcd_decode_time` of these bytes of the year returns r; its lent place is old before and new after it
+pub record TimeCrossed (year : ℕ) (bytes : List ℕ) (r : ℕ) (old new : List ℕ) : Type 0 where
+  pub refusal-is : r ≡ timeRefusal year bytes
+  pub time-is : new ≡ timeOr (timeDecoded year bytes) old
 
 -- `pcd_decode_number` likewise
 pub record NumberCrossed (bytes : List ℕ) (r : ℕ) (old new : Float) : Type 0 where

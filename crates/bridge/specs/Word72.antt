@@ -48,9 +48,9 @@ doubleOr old fill = old
 
 -- ---- what the entries promise: the number of the refusal, and each lent place, old before the call and new after it
 
-pub record KindCrossed (column : List ℕ) (r old new : ℕ) : Type 0 where
-  pub refusal-is : r ≡ refusal (kindLines column)
-  pub kind-is : new ≡ answered (λ n. old) (kindLines column) (kindOf column)
+pub record KindCrossed (year : ℕ) (column : List ℕ) (r old new : ℕ) : Type 0 where
+  pub refusal-is : r ≡ refusal (kindLines year column)
+  pub kind-is : new ≡ answered (λ n. old) (kindLines year column) (kindOf column)
 
 pub record CountCrossed (kind r old new : ℕ) : Type 0 where
   pub refusal-is : r ≡ refusal (countLines kind)
@@ -60,7 +60,7 @@ pub record DescribeCrossed (kind item r : ℕ) (old new : List ℕ) : Type 0 whe
   pub refusal-is : r ≡ refusal (itemLines kind item)
   pub item-is : new ≡ answered (λ n. old) (itemLines kind item) (itemNumbers (itemOf kind item))
 
-pub record ReadCrossed (column : List ℕ) (kind item r : ℕ) (old new : List ℕ) (x y : Float) : Type 0 where
-  pub refusal-is : r ≡ refusal (readLines column kind item)
-  pub values-are : new ≡ answered (λ n. old) (readLines column kind item) (valueNumbers (itemValue column kind item))
-  pub double-is : y ≡ answered (λ n. x) (readLines column kind item) (doubleOr x (itemValue column kind item))
+pub record ReadCrossed (year : ℕ) (column : List ℕ) (kind item r : ℕ) (old new : List ℕ) (x y : Float) : Type 0 where
+  pub refusal-is : r ≡ refusal (readLines year column kind item)
+  pub values-are : new ≡ answered (λ n. old) (readLines year column kind item) (valueNumbers (itemValue column kind item))
+  pub double-is : y ≡ answered (λ n. x) (readLines year column kind item) (doubleOr x (itemValue column kind item))

@@ -3,12 +3,12 @@ ghost use Rattle.time_code.specs.Promise.{EncodePromise as TimeWritten};
 ghost use Rattle.float1750.specs.Promise.{EncodePromise as NumberWritten};
 ghost use Rattle.bridge.specs.LentPlaces.{timeCode, TimeCrossed, NumberCrossed};
 
-// Reads a time code; `out` gets the spacecraft, then the instant.
+// Reads a time code of a year; `out` gets the spacecraft, then the instant.
 #[no_mangle]
-pub extern "C" fn pcd_decode_time(bytes: &[u8], out: &mut [u64; 2]) -> u8
-    ensures { λ r. ⌜ TimeCrossed (now (bytes .entry)) r (now (out .entry)) (now (out .exit)) ⌝ }
+pub extern "C" fn pcd_decode_time(year: u64, bytes: &[u8], out: &mut [u64; 2]) -> u8
+    ensures { λ r. ⌜ TimeCrossed year (now (bytes .entry)) r (now (out .entry)) (now (out .exit)) ⌝ }
 {
-    let d = time_code::decode(bytes);
+    let d = time_code::decode(year, bytes);
     match d {
         time_code::Decoded::Time(t) => {
             *out = [t.spacecraft, t.instant];
@@ -20,16 +20,16 @@ pub extern "C" fn pcd_decode_time(bytes: &[u8], out: &mut [u64; 2]) -> u8
     }
 }
 
-// Writes the time code of a spacecraft and an instant.
+// Writes the time code of a spacecraft and an instant of a year.
 #[no_mangle]
-pub extern "C" fn pcd_encode_time(spacecraft: u64, instant: u64, out: &mut [u8]) -> u8
-    ensures { λ r. ⌜ TimeWritten (timeCode spacecraft instant) (now (out .entry)) (now (out .exit)) r ⌝ }
+pub extern "C" fn pcd_encode_time(year: u64, spacecraft: u64, instant: u64, out: &mut [u8]) -> u8
+    ensures { λ r. ⌜ TimeWritten year (timeCode spacecraft instant) (now (out .entry)) (now (out .exit)) r ⌝ }
 {
     let t = time_code::TimeCode {
         spacecraft: spacecraft,
         instant: instant,
     };
-    time_code::encode(t, out)
+    time_code::encode(year, t, out)
 }
 
 // Reads a number of MIL-STD-1750.

@@ -21,12 +21,12 @@ pub extern "C" fn pcd_gather(area: &[u8], column: &mut [u8]) -> u8
     subcom::gather(area, column)
 }
 
-// The kind of a column.
+// The kind of a column recorded in a year.
 #[no_mangle]
-pub extern "C" fn pcd_kind(column: &[u8], out: &mut u64) -> u8
-    ensures { λ r. ⌜ KindCrossed (now (column .entry)) r (now (out .entry)) (now (out .exit)) ⌝ }
+pub extern "C" fn pcd_kind(year: u64, column: &[u8], out: &mut u64) -> u8
+    ensures { λ r. ⌜ KindCrossed year (now (column .entry)) r (now (out .entry)) (now (out .exit)) ⌝ }
 {
-    match subcom::kind(column) {
+    match subcom::kind(year, column) {
         ColumnKind::Kind(k) => {
             *out = k;
             return 0;
@@ -92,20 +92,21 @@ pub extern "C" fn pcd_part_refusal(column: &[u8], kind: u64, item: u64) -> u8
     subcom::part_refusal(column, kind, item)
 }
 
-// What an item reads as; `out` gets what that is (0 a count, 2 flags, 3 a number, 4 a time, 5 fill), then its values, and `number` the
-// double of a number. A 12-bit item is a count here.
+// What an item of a column recorded in a year reads as; `out` gets what that is (0 a count, 2 flags, 3 a number, 4 a time, 5 fill), then its
+// values, and `number` the double of a number. A 12-bit item is a count here.
 #[no_mangle]
 pub extern "C" fn pcd_read(
+    year: u64,
     column: &[u8],
     kind: u64,
     item: u64,
     out: &mut [u64; 9],
     number: &mut f64,
 ) -> u8
-    ensures { λ r. ⌜ ReadCrossed (now (column .entry)) kind item r
+    ensures { λ r. ⌜ ReadCrossed year (now (column .entry)) kind item r
         (now (out .entry)) (now (out .exit)) (now (number .entry)) (now (number .exit)) ⌝ }
 {
-    match subcom::read(column, kind, item) {
+    match subcom::read(year, column, kind, item) {
         Reading::Count(n) => {
             *out = [0, n, 0, 0, 0, 0, 0, 0, 0];
             return 0;

@@ -6,7 +6,7 @@ use time_code::TimeCode;
 use vectors::number;
 use vectors::put;
 
-const RECORD: usize = 24;
+const RECORD: usize = 32;
 
 const OPERANDS: usize = 22;
 
@@ -25,7 +25,7 @@ fn main() {
 
 // Reads a record and runs it; false at the end of the input.
 fn turn() -> bool {
-    let mut record = [0u8; 24];
+    let mut record = [0u8; 32];
     if vectors::filled(&mut record) {
         return run(&record);
     }
@@ -41,12 +41,13 @@ fn run(record: &[u8]) -> bool {
     if OPERANDS < n {
         return false;
     }
-    let operands = &record[2..24];
+    let year = number(&record[2..10]);
+    let operands = &record[10..32];
     if operation == 1 {
-        read_time(&operands[0..n]);
+        read_time(year, &operands[0..n]);
     }
     if operation == 2 {
-        write_time(operands, n);
+        write_time(year, operands, n);
     }
     if operation == 3 {
         read_number(&operands[0..n]);
@@ -57,14 +58,14 @@ fn run(record: &[u8]) -> bool {
     true
 }
 
-fn read_time(bytes: &[u8]) {
-    match time_code::decode(bytes) {
+fn read_time(year: u64, bytes: &[u8]) {
+    match time_code::decode(year, bytes) {
         time_code::Decoded::Time(t) => vectors::put_time(t.spacecraft, t.instant),
         time_code::Decoded::Refused(r) => vectors::put_refusal(r),
     }
 }
 
-fn write_time(operands: &[u8], n: usize)
+fn write_time(year: u64, operands: &[u8], n: usize)
     requires { ⌜ 22 ≤ length (now operands) ⌝ }
     requires { ⌜ n ≤ 22 ⌝ }
 {
@@ -74,7 +75,7 @@ fn write_time(operands: &[u8], n: usize)
     };
     let mut space = [0xA5u8; 22];
     let out = &mut space[0..n];
-    let answer = time_code::encode(t, out);
+    let answer = time_code::encode(year, t, out);
     written(out, answer);
 }
 

@@ -15,8 +15,8 @@ use vectors::put_bytes;
 use vectors::put_number;
 use vectors::put_refusal;
 
-// A record: the operation, seven bytes of nothing, and three numbers of eight bytes.
-const RECORD: usize = 32;
+// A record: the operation, seven bytes of nothing, three numbers of eight bytes, and the year in as many.
+const RECORD: usize = 40;
 
 const AREA: usize = 16_384;
 
@@ -39,7 +39,7 @@ fn main() {
 
 // Reads a record and runs it; false at the end of the input.
 fn turn(area: &mut [u8], column: &mut [u8]) -> bool {
-    let mut record = [0u8; 32];
+    let mut record = [0u8; 40];
     if filled(&mut record) {
         return run(&record, area, column);
     }
@@ -54,23 +54,24 @@ fn run(record: &[u8], area: &mut [u8], column: &mut [u8]) -> bool {
     let a = number(&record[8..16]);
     let b = number(&record[16..24]);
     let c = number(&record[24..32]);
+    let year = number(&record[32..40]);
     match operation {
         1 => return load(area, AREA),
         2 => return load(column, COLUMN),
         3 => return gather(first(area, a), column, b),
         _ => {
-            ask_one(operation, column, a, b, c);
+            ask_one(operation, year, column, a, b, c);
             return true;
         }
     }
 }
 
 // The operations that change neither buffer.
-fn ask_one(operation: u8, column: &[u8], a: u64, b: u64, c: u64) {
+fn ask_one(operation: u8, year: u64, column: &[u8], a: u64, b: u64, c: u64) {
     match operation {
-        4 => kind(first(column, a)),
-        5 => list(first(column, COLUMN as u64), a),
-        _ => ask(first(column, c), a, b),
+        4 => kind(year, first(column, a)),
+        5 => list(year, first(column, COLUMN as u64), a),
+        _ => ask(year, first(column, c), a, b),
     }
 }
 
@@ -106,8 +107,8 @@ fn gather(area: &[u8], column: &mut [u8], n: u64) -> bool {
     false
 }
 
-fn kind(column: &[u8]) {
-    match subcom::kind(column) {
+fn kind(year: u64, column: &[u8]) {
+    match subcom::kind(year, column) {
         ColumnKind::Kind(k) => {
             field(b"kind ", k);
             put(b"\n");
@@ -117,22 +118,22 @@ fn kind(column: &[u8]) {
 }
 
 // Writes what each item of a kind is, its bytes, and what it reads as.
-fn list(column: &[u8], kind: u64) {
+fn list(year: u64, column: &[u8], kind: u64) {
     match subcom::item_count(kind) {
-        ItemCount::Items(n) => list_items(column, kind, n),
+        ItemCount::Items(n) => list_items(year, column, kind, n),
         ItemCount::Refused(r) => put_refusal(r),
     }
 }
 
-fn list_items(column: &[u8], kind: u64, n: u64) {
+fn list_items(year: u64, column: &[u8], kind: u64, n: u64) {
     let mut item = 0;
     while item < n {
-        list_item(column, kind, item);
+        list_item(year, column, kind, item);
         item += 1;
     }
 }
 
-fn list_item(column: &[u8], kind: u64, item: u64) {
+fn list_item(year: u64, column: &[u8], kind: u64, item: u64) {
     put_number(kind);
     field(b" ", item);
     match subcom::describe(kind, item) {
@@ -142,16 +143,16 @@ fn list_item(column: &[u8], kind: u64, item: u64) {
     put(b" [");
     put_bytes(subcom::part(column, kind, item));
     put(b"] ");
-    put_reading(subcom::read(column, kind, item));
+    put_reading(subcom::read(year, column, kind, item));
 }
 
 // Writes the answers of all entries on one item.
-fn ask(column: &[u8], kind: u64, item: u64) {
+fn ask(year: u64, column: &[u8], kind: u64, item: u64) {
     put_number(subcom::part_refusal(column, kind, item) as u64);
     put(b" [");
     put_bytes(subcom::part(column, kind, item));
     put(b"] ");
-    put_reading(subcom::read(column, kind, item));
+    put_reading(subcom::read(year, column, kind, item));
 }
 
 fn put_item(i: Item) {

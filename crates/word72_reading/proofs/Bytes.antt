@@ -10,26 +10,28 @@ use lib.Ieee.{Float}
 use lib.ListN.{length, getD}
 use borrow.Author.Tests.{ne-eqb, le-leb, lt-leb}
 use Rattle.base.specs.Numbers.{bigEndian}
-use Rattle.base.specs.Refusal.{Line, answered, refusal}
+use Rattle.base.specs.Refusal.{Line, _when_, answered, refusal}
 use Rattle.base.proofs.Refusals.{answered-of, answered-number}
 use Rattle.float1750.specs.Codec as number-codec
 use Rattle.float1750.specs.declared.Decoded as number-answer
 use Rattle.float1750.specs.Double.{Exact}
 use Rattle.float1750.specs.Promise as number-promise
 use Rattle.float1750.specs.Word.{isZero, normalised, value}
+use Rattle.time_code.specs.Calendar.{inSpan}
 use Rattle.time_code.specs.Codec as time-codec
 use Rattle.time_code.specs.declared.Decoded as time-answer
 use Rattle.time_code.specs.declared.TimeCode.{TimeCode}
 use Rattle.time_code.specs.Fields.{isTime}
+use Rattle.time_code.proofs.Codes.{of-seven}
 use Rattle.word72_items.specs.declared.Form.{Form}
 use Rattle.word72_items.specs.declared.Form.the-variants as form
 use Rattle.word72_items.specs.ItemTable.{suits}
 use Rattle.word72_reading.specs.declared.EightFlags.{EightFlags}
 use Rattle.word72_reading.specs.declared.Reading.{Reading}
 use Rattle.word72_reading.specs.declared.Reading.the-variants.{Count, Flags, Number, Time, Fill, Refused}
-use Rattle.word72_reading.specs.Values.{Value, count, flags, number, time, fill, bits, lines, valueOf}
-use Rattle.word72_reading.specs.Readings.{numberOf, valuesOf, flagsOf, readingOf, readAsLines, readAs}
-use Rattle.word72_reading.specs.Promise.{ReadAsPromise}
+use Rattle.word72_reading.specs.Values.{Value, count, flags, number, time, fill, bits, valueOf}
+use Rattle.word72_reading.specs.Readings.{numberOf, valuesOf, flagsOf, readingOf, suitedReading, readAsLines, readAs}
+use Rattle.word72_reading.specs.Promise.{ReadAsPromise, SuitedPromise, InAnyYear}
 
 -- ---- the case that carries a value has number 0, and that value
 
@@ -75,11 +77,6 @@ holds : (b : Bool) → T b → b ≡ true
 holds true t = refl
 holds false t = absurd t
 
--- with the length that the form asks for the form's own line is left
-pub suited : (f : Form) (bs : List ℕ) → T (suits f (length bs)) → readAs f bs ≡ answered Refused (lines f bs) (readingOf (valueOf f bs))
-unfolding readAs
-suited f bs s = rw (holds (suits f (length bs)) s)
-
 -- the number and the values of an answer, whatever lines are looked at
 module _ (ls : List Line) (f : Form) (bs : List ℕ) where
   abbrev answer : Reading
@@ -91,46 +88,51 @@ module _ (ls : List Line) (f : Form) (bs : List ℕ) where
   pub values-of : valuesOf answer ≡ answered (λ n. []) ls (valueOf f bs ∷ [])
   values-of = answered-of valuesOf Refused ls _ ∙ ap (λ (l : List Value). answered (λ n. []) ls l) (carried f bs)
 
-module _ (f : Form) (bs : List ℕ) (r : Reading) where
-  promised : r ≡ readAs f bs → ((v : Float) → valuesOf r ≡ number v ∷ [] → Exact bs v) → ReadAsPromise f bs r
+module _ (y : ℕ) (f : Form) (bs : List ℕ) where
+  promised : (r : Reading) → r ≡ readAs y f bs → ((v : Float) → valuesOf r ≡ number v ∷ [] → Exact bs v) → ReadAsPromise y f bs r
   unfolding readAs
-  promised e exact =
-      let ls = readAsLines f bs in
+  promised r e exact =
+      let ls = readAsLines y f bs in
       record { answer = e; refusal-is = ap numberOf e ∙ number-of ls f bs; value-is = ap valuesOf e ∙ values-of ls f bs; exact = exact }
 
-pub wrong-length : (f : Form) (bs : List ℕ) → suits f (length bs) ≡ false → ReadAsPromise f bs (Refused 2)
-unfolding readAs
-wrong-length f bs s = promised f bs (Refused 2) (rw s) (no-number bs (Refused 2) refl)
+  pub wrong-length : suits f (length bs) ≡ false → ReadAsPromise y f bs (Refused 2)
+  unfolding readAs
+  wrong-length s = promised (Refused 2) (rw s) (no-number bs (Refused 2) refl)
+
+  pub out-of-span : suits f (length bs) ≡ true → inSpan y ≡ false → ReadAsPromise y f bs (Refused 13)
+  unfolding readAs
+  out-of-span s o = promised (Refused 13) (rw (s, o)) (no-number bs (Refused 13) refl)
+
+  -- with the length that the form asks for and a year in the span the form's own line is left
+  pub suited : T (suits f (length bs)) → inSpan y ≡ true → readAs y f bs ≡ suitedReading y f bs
+  unfolding readAs
+  suited s i = rw (holds (suits f (length bs)) s, i)
+
+  pub in-full : (r : Reading) → T (suits f (length bs)) → inSpan y ≡ true → SuitedPromise y f bs r → ReadAsPromise y f bs r
+  in-full r s i p = promised r (p .answer ∙ sym (suited s i)) (p .exact)
 
 -- ---- counts, flags, fill
-module _ (bs : List ℕ) (s : T (suits form.Count (length bs))) where
-  pub count-read : (n : ℕ) → length bs ≤ 8 → n ≡ bigEndian bs → ReadAsPromise form.Count bs (Count n)
-  count-read n h e =
-      promised form.Count bs (Count n) (rw (suited form.Count bs s, le-leb (length bs) 8 h, e)) (no-number bs (Count n) refl)
+module _ (bs : List ℕ) where
+  pub count-read : (n : ℕ) → length bs ≤ 8 → n ≡ bigEndian bs → InAnyYear form.Count bs (Count n)
+  count-read n h e y = record { answer = rw (le-leb (length bs) 8 h, e); exact = no-number bs (Count n) refl }
 
-  pub long-read : 8 < length bs → ReadAsPromise form.Count bs Fill
-  long-read h =
-      promised form.Count bs Fill (rw (suited form.Count bs s, lt-leb (length bs) 8 h)) (no-number bs Fill refl)
+  pub long-read : 8 < length bs → InAnyYear form.Count bs Fill
+  long-read h y = record { answer = rw (lt-leb (length bs) 8 h); exact = no-number bs Fill refl }
+
+  pub flags-read : (g : EightFlags) → g ≡ flagsOf (bits (getD bs 0 0)) → InAnyYear form.Flags bs (Flags g)
+  flags-read g e y = record { answer = rw e; exact = no-number bs (Flags g) refl }
+
+  pub fill-read : InAnyYear form.Fill bs Fill
+  fill-read y = record { answer = refl; exact = no-number bs Fill refl }
 
 module _ (b c : ℕ) where
-  pub twelve-read : (n : ℕ) → b / 16 ≡ 0 → n ≡ b * 256 + c → ReadAsPromise form.TwelveBit (b ∷ c ∷ []) (Count n)
-  unfolding readAs
-  twelve-read n h e =
+  pub twelve-read : (n : ℕ) → b / 16 ≡ 0 → n ≡ b * 256 + c → InAnyYear form.TwelveBit (b ∷ c ∷ []) (Count n)
+  twelve-read n h e y =
       let low : n ≡ b % 16 * 256 + c = omega arith in
-      promised form.TwelveBit (b ∷ c ∷ []) (Count n) (rw (h, low)) (no-number (b ∷ c ∷ []) (Count n) refl)
+      record { answer = rw (h, low); exact = no-number (b ∷ c ∷ []) (Count n) refl }
 
-  pub twelve-refused : (b / 16 ≡ 0 → ⊥) → ReadAsPromise form.TwelveBit (b ∷ c ∷ []) (Refused 9)
-  unfolding readAs
-  twelve-refused h =
-      promised form.TwelveBit (b ∷ c ∷ []) (Refused 9) (rw (ne-eqb (b / 16) 0 h)) (no-number (b ∷ c ∷ []) (Refused 9) refl)
-
-pub flags-read : (bs : List ℕ) (g : EightFlags) → T (suits form.Flags (length bs)) → g ≡ flagsOf (bits (getD bs 0 0)) → ReadAsPromise form.Flags bs (Flags g)
-flags-read bs g s e =
-    promised form.Flags bs (Flags g) (rw (suited form.Flags bs s, e)) (no-number bs (Flags g) refl)
-
-pub fill-read : (bs : List ℕ) → T (suits form.Fill (length bs)) → ReadAsPromise form.Fill bs Fill
-fill-read bs s =
-    promised form.Fill bs Fill (rw (suited form.Fill bs s)) (no-number bs Fill refl)
+  pub twelve-refused : (b / 16 ≡ 0 → ⊥) → InAnyYear form.TwelveBit (b ∷ c ∷ []) (Refused 9)
+  twelve-refused h y = record { answer = rw (ne-eqb (b / 16) 0 h); exact = no-number (b ∷ c ∷ []) (Refused 9) refl }
 
 -- ---- the codecs' answers as readings
 
@@ -143,35 +145,33 @@ ofTime (time-answer.the-variants.Time t) = Time t
 ofTime (time-answer.the-variants.Refused n) = Refused n
 
 module _ (bs : List ℕ) (six : length bs ≡ 6) where
-  of-number : ofNumber (number-codec.decoded bs) ≡ readAs form.Number bs
-  unfolding readAs number-codec.decoded
-  of-number = go (isZero bs || normalised bs) refl
+  of-number : (y : ℕ) → ofNumber (number-codec.decoded bs) ≡ suitedReading y form.Number bs
+  unfolding number-codec.decoded
+  of-number y = go (isZero bs || normalised bs) refl
     where
-      go : (b : Bool) → (isZero bs || normalised bs) ≡ b → ofNumber (number-codec.decoded bs) ≡ readAs form.Number bs
+      go : (b : Bool) → (isZero bs || normalised bs) ≡ b → ofNumber (number-codec.decoded bs) ≡ suitedReading y form.Number bs
       go true e = rw (six, e)
       go false e = rw (six, e)
 
-  pub number-read : (v : Float) → number-promise.DecodePromise bs (number-answer.the-variants.Number v) → ReadAsPromise form.Number bs (Number v)
-  number-read v p =
-      promised form.Number bs (Number v) (ap ofNumber (p .answer) ∙ of-number) (λ u z. let same : v ≡ u = cc in rw same at (p .exact v refl))
+  pub number-read : (v : Float) → number-promise.DecodePromise bs (number-answer.the-variants.Number v) → InAnyYear form.Number bs (Number v)
+  number-read v p y =
+      record { answer = ap ofNumber (p .answer) ∙ of-number y; exact = λ u z. let same : v ≡ u = cc in rw same at (p .exact v refl) }
 
-  pub number-refused : (n : ℕ) → number-promise.DecodePromise bs (number-answer.the-variants.Refused n) → ReadAsPromise form.Number bs (Refused n)
-  number-refused n p =
-      promised form.Number bs (Refused n) (ap ofNumber (p .answer) ∙ of-number) (no-number bs (Refused n) refl)
+  pub number-refused : (n : ℕ) → number-promise.DecodePromise bs (number-answer.the-variants.Refused n) → InAnyYear form.Number bs (Refused n)
+  number-refused n p y = record { answer = ap ofNumber (p .answer) ∙ of-number y; exact = no-number bs (Refused n) refl }
 
-module _ (bs : List ℕ) (seven : length bs ≡ 7) where
-  of-time : ofTime (time-codec.decoded bs) ≡ readAs form.Time bs
-  unfolding readAs time-codec.decoded
-  of-time = go (isTime bs) refl
+module _ (y : ℕ) (bs : List ℕ) (span : inSpan y ≡ true) (seven : length bs ≡ 7) where
+  of-time : ofTime (time-codec.decoded y bs) ≡ suitedReading y form.Time bs
+  of-time = rw (of-seven y bs seven span) (go (isTime y bs))
     where
-      go : (b : Bool) → isTime bs ≡ b → ofTime (time-codec.decoded bs) ≡ readAs form.Time bs
-      go true e = rw (seven, e)
-      go false e = rw (seven, e)
+      go : (b : Bool) → let ls = 8 when not b ∷ [] in
+          ofTime (answered time-answer.the-variants.Refused ls (time-answer.the-variants.Time (time-codec.timeOf bs)))
+          ≡ answered Refused ls (readingOf (valueOf form.Time bs))
+      go true = refl
+      go false = refl
 
-  pub time-read : (t : TimeCode) → time-answer.the-variants.Time t ≡ time-codec.decoded bs → ReadAsPromise form.Time bs (Time t)
-  time-read t e =
-      promised form.Time bs (Time t) (ap ofTime e ∙ of-time) (no-number bs (Time t) refl)
+  pub time-read : (t : TimeCode) → time-answer.the-variants.Time t ≡ time-codec.decoded y bs → SuitedPromise y form.Time bs (Time t)
+  time-read t e = record { answer = ap ofTime e ∙ of-time; exact = no-number bs (Time t) refl }
 
-  pub time-refused : (n : ℕ) → time-answer.the-variants.Refused n ≡ time-codec.decoded bs → ReadAsPromise form.Time bs (Refused n)
-  time-refused n e =
-      promised form.Time bs (Refused n) (ap ofTime e ∙ of-time) (no-number bs (Refused n) refl)
+  pub time-refused : (n : ℕ) → time-answer.the-variants.Refused n ≡ time-codec.decoded y bs → SuitedPromise y form.Time bs (Refused n)
+  time-refused n e = record { answer = ap ofTime e ∙ of-time; exact = no-number bs (Refused n) refl }

@@ -1,9 +1,10 @@
--- The code's answer: 01's number and values in each of its cases, and the case that carries a value. Definitions only.
+-- The code's answer: the papers' number and 01's values in each of its cases, and the case that carries a value. Definitions only.
 use mathlib.Core.Bool.{Bool, false, not}
 use mathlib.Core.List.{List, [], _∷_}
 use Prim.Native.Nat.{ℕ}
 use lib.ListN.{length, getD}
 use Rattle.base.specs.Refusal.{Line, _when_, answered}
+use Rattle.time_code.specs.Calendar.{inSpan}
 use Rattle.word72_items.specs.declared.Form.{Form}
 use Rattle.word72_items.specs.ItemTable.{suits}
 use Rattle.word72_reading.specs.declared.EightFlags.{EightFlags}
@@ -11,7 +12,7 @@ use Rattle.word72_reading.specs.declared.Reading.{Reading}
 use Rattle.word72_reading.specs.declared.Reading.the-variants.{Count, Flags, Number, Time, Fill, Refused}
 use Rattle.word72_reading.specs.Values.{Value, count, flags, number, time, fill, lines, valueOf}
 
--- 01's number, 0 for none; and what is given, none where it is refused
+-- the papers' number, 0 for none; and what is given, none where it is refused
 abbrev pub numberOf : Reading → ℕ
 numberOf (Count n) = 0
 numberOf (Flags f) = 0
@@ -53,11 +54,16 @@ readingOf (number v) = Number v
 readingOf (time s i) = Time (record { spacecraft = s; instant = i })
 readingOf fill = Fill
 
--- ---- bytes read by a form
+-- ---- bytes of the year y, read by a form
 
--- 01's lines that concern it: 2 where the form asks for another number of bytes, then 8, 9 or 10 as the form has it
-abbrev pub readAsLines : Form → List ℕ → List Line
-readAsLines f bs = 2 when not (suits f (length bs)) ∷ lines f bs
+-- where they are as many as the form asks for, and the year is in the span
+abbrev pub suitedReading : ℕ → Form → List ℕ → Reading
+suitedReading y f bs = answered Refused (lines y f bs) (readingOf (valueOf f bs))
 
-unfoldable pub readAs : Form → List ℕ → Reading
-readAs f bs = answered Refused (readAsLines f bs) (readingOf (valueOf f bs))
+-- the papers' lines that concern it: 2 where the form asks for another number of bytes; 13, whatever the form; then 8, 9 or 10 as the form
+-- has it
+abbrev pub readAsLines : ℕ → Form → List ℕ → List Line
+readAsLines y f bs = 2 when not (suits f (length bs)) ∷ 13 when not (inSpan y) ∷ lines y f bs
+
+unfoldable pub readAs : ℕ → Form → List ℕ → Reading
+readAs y f bs = answered Refused (readAsLines y f bs) (readingOf (valueOf f bs))

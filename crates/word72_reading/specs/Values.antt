@@ -1,5 +1,5 @@
--- What the bytes of an item are, by its form, and when they are refused (01, "Word 72 and its items" and "Refusal numbers"). Nothing here
--- speaks of the code's answer; Readings.antt ties its cases to these values. Definitions only.
+-- What the bytes of an item are, by its form, and when they are refused (01, "Word 72 and its items" and "Refusal numbers"; 02, request 4).
+-- Nothing here speaks of the code's answer; Readings.antt ties its cases to these values. Definitions only.
 use mathlib.Core.Bool.{Bool, cond, not, _||_}
 use mathlib.Core.List.{List, [], _∷_}
 use Prim.Native.Nat.{ℕ, _+_, _-_, _*_, _/_, _%_, _^_}
@@ -27,14 +27,14 @@ bit b j = eqb (b / 2 ^ (7 - j) % 2) 1
 abbrev pub bits : ℕ → List Bool
 bits b = bit b 0 ∷ bit b 1 ∷ bit b 2 ∷ bit b 3 ∷ bit b 4 ∷ bit b 5 ∷ bit b 6 ∷ bit b 7 ∷ []
 
--- the line of the refusal table that a form has
-abbrev pub lines : Form → List ℕ → List Line
-lines form.Count bs = []
-lines form.TwelveBit bs = 9 when not (eqb (getD bs 0 0 / 16) 0) ∷ []
-lines form.Flags bs = []
-lines form.Number bs = 10 when not (isZero bs || normalised bs) ∷ []
-lines form.Time bs = 8 when not (isTime bs) ∷ []
-lines form.Fill bs = []
+-- the line of the refusal table that a form has; a time is one of the year y
+abbrev pub lines : ℕ → Form → List ℕ → List Line
+lines y form.Count bs = []
+lines y form.TwelveBit bs = 9 when not (eqb (getD bs 0 0 / 16) 0) ∷ []
+lines y form.Flags bs = []
+lines y form.Number bs = 10 when not (isZero bs || normalised bs) ∷ []
+lines y form.Time bs = 8 when not (isTime y bs) ∷ []
+lines y form.Fill bs = []
 
 -- what the bytes are where that line does not hold: a number's double is that of the word, and `exact` in Promise.antt says which
 -- equation over whole numbers it meets

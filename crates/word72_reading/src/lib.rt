@@ -1,16 +1,19 @@
-// What the bytes of an item read as, by the item's form (paper 01, "Word 72 and its items").
+// What the bytes of an item read as, by the item's form (paper 01, "Word 72 and its items"; paper 02, request 4).
 ghost use mathlib.Core.Path.{_≡_};
+ghost use mathlib.Core.Bool.{true};
 ghost use mathlib.Core.List.{[], _∷_};
 ghost use lib.ListN.{length};
 ghost use lib.Dec.{T};
+ghost use Rattle.time_code.specs.Calendar.{inSpan};
 ghost use Rattle.word72_items.specs.ItemTable.{suits};
 ghost use Rattle.word72_items.specs.declared.Form.the-variants as form;
 ghost use Rattle.word72_reading.specs.Readings.{flagsOf};
 ghost use Rattle.word72_reading.specs.Values.{bits};
-ghost use Rattle.word72_reading.specs.Promise.{ReadAsPromise};
+ghost use Rattle.word72_reading.specs.Promise.{ReadAsPromise, SuitedPromise, InAnyYear};
 use base::refusal;
 use base::wide;
 use time_code::TimeCode;
+use time_code::year;
 use word72_items::Form;
 
 // The most bytes of a count; a longer item that has no other form reads as fill.
@@ -38,15 +41,19 @@ pub enum Reading {
     Refused(u8),
 }
 
-// Reads bytes by a form. Refused 2: the form asks for another number of bytes. Then 8: the time code is not good, 9: the upper four bits
-// of a 12-bit item are not 0, 10: the number is not normalised.
-pub fn read_as(form: Form, bytes: &[u8]) -> Reading
-    ensures { λ r. ⌜ ReadAsPromise form (now (bytes .entry)) r ⌝ }
+// Reads bytes recorded in a year by a form. Refused 2: the form asks for another number of bytes. Refused 13, whatever the form: the year is
+// outside 1999 to 2099. Then 8: the time code is not good in the year, 9: the upper four bits of a 12-bit item are not 0, 10: the number is
+// not normalised.
+pub fn read_as(year: u64, form: Form, bytes: &[u8]) -> Reading
+    ensures { λ r. ⌜ ReadAsPromise year form (now (bytes .entry)) r ⌝ }
 {
-    if length_suits(form, bytes.len()) {
-        return read_suited(form, bytes);
+    if !length_suits(form, bytes.len()) {
+        return Reading::Refused(refusal::WRONG_LENGTH);
     }
-    Reading::Refused(refusal::WRONG_LENGTH)
+    if !year::in_span(year) {
+        return Reading::Refused(refusal::YEAR_OUTSIDE_SPAN);
+    }
+    read_suited(year, form, bytes)
 }
 
 fn length_suits(form: Form, n: usize) -> bool
@@ -62,24 +69,23 @@ fn length_suits(form: Form, n: usize) -> bool
     }
 }
 
-fn read_suited(form: Form, bytes: &[u8]) -> Reading
-    requires { ⌜ T (suits form (length (now bytes))) ⌝ }
-    ensures { λ r. ⌜ ReadAsPromise form (now (bytes .entry)) r ⌝ }
+fn read_suited(year: u64, form: Form, bytes: &[u8]) -> Reading
+    requires { ⌜ (inSpan year ≡ true) × T (suits form (length (now bytes))) ⌝ }
+    ensures { λ r. ⌜ SuitedPromise year form (now (bytes .entry)) r ⌝ }
 {
     match form {
         Form::Count => count(bytes),
         Form::TwelveBit => twelve_bit(bytes[0], bytes[1]),
         Form::Flags => Reading::Flags(flags(bytes[0])),
         Form::Number => number(bytes),
-        Form::Time => time(bytes),
+        Form::Time => time(year, bytes),
         Form::Fill => Reading::Fill,
     }
 }
 
 // A count of up to eight bytes, the first byte highest; longer items read as fill.
 fn count(bytes: &[u8]) -> Reading
-    requires { ⌜ T (suits form.Count (length (now bytes))) ⌝ }
-    ensures { λ r. ⌜ ReadAsPromise form.Count (now (bytes .entry)) r ⌝ }
+    ensures { λ r. ⌜ InAnyYear form.Count (now (bytes .entry)) r ⌝ }
 {
     if LONGEST_COUNT < bytes.len() {
         return Reading::Fill;
@@ -89,7 +95,7 @@ fn count(bytes: &[u8]) -> Reading
 
 // The low four bits of the first byte, then the second; refused where the upper four are not 0.
 fn twelve_bit(first: u8, second: u8) -> Reading
-    ensures { λ r. ⌜ ReadAsPromise form.TwelveBit (first ∷ second ∷ []) r ⌝ }
+    ensures { λ r. ⌜ InAnyYear form.TwelveBit (first ∷ second ∷ []) r ⌝ }
 {
     if first / 16 != 0 {
         return Reading::Refused(refusal::UPPER_BITS_SET);
@@ -114,7 +120,7 @@ fn flags(b: u8) -> EightFlags
 
 fn number(bytes: &[u8]) -> Reading
     requires { ⌜ length (now bytes) ≡ 6 ⌝ }
-    ensures { λ r. ⌜ ReadAsPromise form.Number (now (bytes .entry)) r ⌝ }
+    ensures { λ r. ⌜ InAnyYear form.Number (now (bytes .entry)) r ⌝ }
 {
     match float1750::decode(bytes) {
         float1750::Decoded::Number(x) => Reading::Number(x),
@@ -122,11 +128,11 @@ fn number(bytes: &[u8]) -> Reading
     }
 }
 
-fn time(bytes: &[u8]) -> Reading
-    requires { ⌜ length (now bytes) ≡ 7 ⌝ }
-    ensures { λ r. ⌜ ReadAsPromise form.Time (now (bytes .entry)) r ⌝ }
+fn time(year: u64, bytes: &[u8]) -> Reading
+    requires { ⌜ (inSpan year ≡ true) × (length (now bytes) ≡ 7) ⌝ }
+    ensures { λ r. ⌜ SuitedPromise year form.Time (now (bytes .entry)) r ⌝ }
 {
-    match time_code::decode(bytes) {
+    match time_code::decode(year, bytes) {
         time_code::Decoded::Time(t) => Reading::Time(t),
         time_code::Decoded::Refused(number) => Reading::Refused(number),
     }

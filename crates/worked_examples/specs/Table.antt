@@ -1,4 +1,5 @@
--- The worked examples of paper 01 marked P ("Bench examples"): what is asked, and the answer as 01 prints it. Definitions only.
+-- The worked examples of paper 01 marked P ("Bench examples"): what is asked, and the answer as 01 prints it. 02's request 4 has a time read
+-- with its year, and adds the last day of a leap year and of a common one. Definitions only.
 use mathlib.Core.Bool.{Bool, true, false, _&&_}
 use mathlib.Core.List.{List, [], _∷_, _++_, map}
 use Prim.Native.Nat.{ℕ, _+_, _*_, _^_}
@@ -50,9 +51,9 @@ pub data Question : Type 0 where
   is-number : List ℕ → Fraction → Question  -- six bytes: is their number the fraction, and is the double that they read as
   writes-number : Float → Question  -- into six bytes that hold 0
   is-double : Float → Fraction → Question
-  reads-time : List ℕ → Question  -- seven bytes
+  reads-time : ℕ → List ℕ → Question  -- a year and seven bytes
   has-fields : List ℕ → Question
-  reads-item : List ℕ → ℕ → ℕ → Question  -- a column, a kind and an item's number
+  reads-item : ℕ → List ℕ → ℕ → ℕ → Question  -- a year, a column, a kind and an item's number
 
 -- a word, or nothing where the group is split
 abbrev wordAnswer : Word → List ℕ
@@ -75,9 +76,9 @@ answerTo (reads-number w) = number.numberOf (number.decoded w) ∷ map bitsOf (n
 answerTo (is-number w q) = one (wordIs w q) ∷ map (λ v. one (doubleIs v q)) (number.valuesOf (number.decoded w))
 answerTo (writes-number v) = number.encodeRefusal v (replicate 6 0) ∷ number.encodeAfter v (replicate 6 0)
 answerTo (is-double v q) = one (doubleIs v q) ∷ []
-answerTo (reads-time w) = time.numberOf (time.decoded w) ∷ time.valuesOf (time.decoded w)
+answerTo (reads-time y w) = time.numberOf (time.decoded y w) ∷ time.valuesOf (time.decoded y w)
 answerTo (has-fields w) = spacecraft w ∷ day w ∷ hour w ∷ minute w ∷ second w ∷ millisecond w ∷ sixteenth w ∷ []
-answerTo (reads-item column k n) = item.numberOf (reading column k n) ∷ concatMap valueNumbers (item.valuesOf (reading column k n))
+answerTo (reads-item y column k n) = item.numberOf (reading y column k n) ∷ concatMap valueNumbers (item.valuesOf (reading y column k n))
 
 pub record Example : Type 0 where
   pub asks : Question
@@ -115,8 +116,10 @@ table =
     ∷ writes-number minusSmall gives (11 ∷ 0 ∷ 0 ∷ 0 ∷ 0 ∷ 0 ∷ 0 ∷ [])
     ∷ is-double small (plus 1 over (2 ^ 129)) gives (1 ∷ [])
     ∷ writes-number small gives (0 ∷ 0x40 ∷ 0 ∷ 0 ∷ 0x80 ∷ 0 ∷ 0 ∷ [])
-    ∷ reads-time (0x71 ∷ 0x23 ∷ 0x04 ∷ 0x56 ∷ 0x07 ∷ 0x89 ∷ 0x0F ∷ []) gives (0 ∷ 7 ∷ 170319486255 ∷ [])
+    ∷ reads-time 2000 (0x71 ∷ 0x23 ∷ 0x04 ∷ 0x56 ∷ 0x07 ∷ 0x89 ∷ 0x0F ∷ []) gives (0 ∷ 7 ∷ 170319486255 ∷ [])
     ∷ has-fields (0x71 ∷ 0x23 ∷ 0x04 ∷ 0x56 ∷ 0x07 ∷ 0x89 ∷ 0x0F ∷ []) gives (7 ∷ 123 ∷ 4 ∷ 56 ∷ 7 ∷ 890 ∷ 15 ∷ [])
-    ∷ reads-item (columnWith 0x0A 0x5C) 0 34 gives (0 ∷ 2652 ∷ [])
-    ∷ reads-item (columnWith 0x1A 0x5C) 0 34 gives (9 ∷ [])
+    ∷ reads-time 2000 (0x73 ∷ 0x66 ∷ 0x23 ∷ 0x59 ∷ 0x59 ∷ 0x99 ∷ 0x9F ∷ []) gives (0 ∷ 7 ∷ 507340799999 ∷ [])
+    ∷ reads-time 2001 (0x73 ∷ 0x66 ∷ 0x23 ∷ 0x59 ∷ 0x59 ∷ 0x99 ∷ 0x9F ∷ []) gives (8 ∷ [])
+    ∷ reads-item 2000 (columnWith 0x0A 0x5C) 0 34 gives (0 ∷ 2652 ∷ [])
+    ∷ reads-item 2000 (columnWith 0x1A 0x5C) 0 34 gives (9 ∷ [])
     ∷ []

@@ -5,10 +5,10 @@ use Rattle.subcom_vectors.proofs.list_items.Statement.{statement}
 use Rattle.subcom_vectors.proofs.list_items.Tie as tie
 
 abbrev Inv-loop : tie.InvT-loop
-Inv-loop column kind n item₀ item = Unit {0}
+Inv-loop year column kind n item₀ item = Unit {0}
 
 abbrev μ-loop : tie.MeasureT-loop
-μ-loop column kind n item₀ item = n - item
+μ-loop year column kind n item₀ item = n - item
 
 loop-holds : tie.Need-loop-holds Inv-loop μ-loop
 loop-holds c = tt

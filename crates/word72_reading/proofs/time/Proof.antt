@@ -1,4 +1,4 @@
--- `word72_reading::time` meets its contract: seven bytes read as what the time codec answers. Assumes nothing.
+-- `word72_reading::time` meets its contract: seven bytes of a year in the span read as what the time codec answers. Assumes nothing.
 use mathlib.Core.Path.{sym, _∙_}
 use denote.Ref.{now}
 use borrow.Author.Needs.{needs}
@@ -19,13 +19,13 @@ returns : tie.Need-returns
 returns c =
     let d = c .before .before .before in
     let w = d .before .before in
-    time-read (now (w .args .bytes)) (w .pre) _ (sym (c .before .t .given .1) ∙ d .decode .ensures .answer)
+    time-read (w .args .year) (now (w .args .bytes)) (w .pre .0) (w .pre .1) _ (sym (c .before .t .given .1) ∙ d .decode .ensures .answer)
 
 returns-2 : tie.Need-returns-2
 returns-2 c =
     let d = c .before .before .before in
     let w = d .before .before in
-    time-refused (now (w .args .bytes)) (w .pre) _ (sym (c .before .number .given .1) ∙ d .decode .ensures .answer)
+    time-refused (w .args .year) (now (w .args .bytes)) (w .pre .0) (w .pre .1) _ (sym (c .before .number .given .1) ∙ d .decode .ensures .answer)
 
 pub time-spec : {M : Type 1} → statement M
 time-spec = tie.close (tie.spec decode-requires enum-known-t enum-known-number returns returns-2)

@@ -12,13 +12,13 @@ enum-known-d : tie.Need-enum-known-d
 enum-known-d c = search needs
 
 returns : tie.Need-returns
-returns c = time-crossed _ _ (Time _) _ (c .before .before .before .before .decode .ensures) (c .before .before .d .given .1)
+returns c = time-crossed _ _ _ (Time _) _ (c .before .before .before .before .decode .ensures) (c .before .before .d .given .1)
 
 enum-known-d-2 : tie.Need-enum-known-d-2
 enum-known-d-2 c = search needs
 
 returns-2 : tie.Need-returns-2
-returns-2 c = time-crossed _ _ (Refused _) _ (c .before .before .before .decode .ensures) (c .before .d2 .given .1)
+returns-2 c = time-crossed _ _ _ (Refused _) _ (c .before .before .before .decode .ensures) (c .before .d2 .given .1)
 
 pub pcd-decode-time-spec : {M : Type 1} → statement M
 pcd-decode-time-spec =

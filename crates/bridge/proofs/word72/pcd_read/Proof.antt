@@ -11,7 +11,7 @@ enum-known-n : tie.Need-enum-known-n
 enum-known-n c = search needs
 
 returns : tie.Need-returns
-returns c = read-crossed _ _ _ _ _ _ _ (c .before .before .before .before .read .ensures) (c .before .before .n .given .1)
+returns c = read-crossed _ _ _ _ _ _ _ _ (c .before .before .before .before .read .ensures) (c .before .before .n .given .1)
 
 enum-known-f : tie.Need-enum-known-f
 enum-known-f c = search needs
@@ -22,31 +22,31 @@ put-flags-requires c κs = search needs
 returns-2 : tie.Need-returns-2
 returns-2 c =
     let arm = c .before .before .before in
-    rw (c .put-flags .ensures) (read-crossed _ _ _ _ _ _ _ (arm .before .before .read .ensures) (arm .f .given .1))
+    rw (c .put-flags .ensures) (read-crossed _ _ _ _ _ _ _ _ (arm .before .before .read .ensures) (arm .f .given .1))
 
 enum-known-x : tie.Need-enum-known-x
 enum-known-x c = search needs
 
 returns-3 : tie.Need-returns-3
-returns-3 c = read-crossed _ _ _ _ _ _ _ (c .before .before .before .before .read .ensures) (c .before .before .x .given .1)
+returns-3 c = read-crossed _ _ _ _ _ _ _ _ (c .before .before .before .before .read .ensures) (c .before .before .x .given .1)
 
 enum-known-t : tie.Need-enum-known-t
 enum-known-t c = search needs
 
 returns-4 : tie.Need-returns-4
-returns-4 c = read-crossed _ _ _ _ _ _ _ (c .before .before .before .before .read .ensures) (c .before .before .t .given .1)
+returns-4 c = read-crossed _ _ _ _ _ _ _ _ (c .before .before .before .before .read .ensures) (c .before .before .t .given .1)
 
 enum-told : tie.Need-enum-told
 enum-told c = search needs
 
 returns-5 : tie.Need-returns-5
-returns-5 c = read-crossed _ _ _ _ _ _ _ (c .before .before .before .read .ensures) (c .before .enum-told .given .1)
+returns-5 c = read-crossed _ _ _ _ _ _ _ _ (c .before .before .before .read .ensures) (c .before .enum-told .given .1)
 
 enum-known-refusal : tie.Need-enum-known-refusal
 enum-known-refusal c = search needs
 
 returns-6 : tie.Need-returns-6
-returns-6 c = read-crossed _ _ _ _ _ _ _ (c .before .before .before .read .ensures) (c .before .refusal .given .1)
+returns-6 c = read-crossed _ _ _ _ _ _ _ _ (c .before .before .before .read .ensures) (c .before .refusal .given .1)
 
 pub pcd-read-spec : {M : Type 1} → statement M
 pcd-read-spec =

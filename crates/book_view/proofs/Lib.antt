@@ -1,0 +1,5 @@
+mod HeldLaws
+mod Handed
+mod Told
+mod Through
+mod ToldThrough
