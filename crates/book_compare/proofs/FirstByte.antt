@@ -58,3 +58,6 @@ module _ (c d : List ℕ) where
 
 pub differs-nowhere : (c : List ℕ) → firstDiffering c c ≡ length c
 differs-nowhere c = sym (differs-not c c (length c) (omega arith) (record { within = omega arith; equal = λ k h. refl }))
+
+pub differing-same : {c d e f : List ℕ} → c ≡ e → d ≡ f → firstDiffering c d ≡ firstDiffering e f
+differing-same p q = rw (p, q)

@@ -8,28 +8,40 @@ use native.Mathlib.Omega.{arith}
 use lib.Dec.{eqb, leb, ltb}
 use lib.ListN.{length, take, drop, length-drop}
 use lib.Seq.{take-take, length-take-le}
-use borrow.Author.Tests.{le-leb, lt-ltb, leb-false, ltb-false}
+use borrow.Author.Tests.{le-leb, lt-ltb, leb-false, ltb-true, ltb-false}
 use Rattle.base.specs.Numbers.{bigEndian, NumberOf}
 use Rattle.base.specs.Ranges.{tabulate}
-use Rattle.base.specs.Refusal.{refusal}
 use Rattle.base.proofs.Numbers.{short-take}
 use Rattle.book.specs.declared.parts.Place.{Place}
-use Rattle.book.specs.Layout.{bytesAt, bodyStart, cyclesSaid, instantAt, bodyAt}
-use Rattle.book.specs.Faults.{contents, faults, linesOf, falls, badInstant, viewRefusal}
-use Rattle.book.specs.Parts.{hasSize, entryPlace, bodyPlace}
+use Rattle.book.specs.Layout.{bytesAt, bodyStart, cyclesSaid, yearSaid, instantAt, bodyAt}
+use Rattle.book.specs.Faults.{falls, badInstant, viewRefusal}
+use Rattle.book.specs.Parts.{hasSize, countOf, yearOf, entryPlace, bodyPlace}
 use Rattle.book.specs.Sought.{Sized}
-use Rattle.book.proofs.Places.{There, there, an-entry, entry-there, body-there}
-use Rattle.book.proofs.Ways.{Sound, none-sound}
+use Rattle.book.proofs.Places.{There, there, an-entry, count-there, year-there, entry-there, body-there}
+use Rattle.book_check.proofs.Wholes.{sound, size}
 use Rattle.book_compare.specs.Differences.{Cycle, cycleAt, cyclesIn, AllAfter, StrictlyRises}
 use Rattle.book_compare.specs.Merge.{cycleInstants, Entered}
+
+-- ---- the header that is told
+module _ (b : List ℕ) (t : hasSize b ≡ true) (r : ℕ) where
+  pub count-is : r ≡ countOf b → r ≡ cyclesSaid b
+  count-is e = e ∙ sym (count-there b t)
+
+  pub year-is : r ≡ yearOf b → r ≡ yearSaid b
+  year-is e = e ∙ sym (year-there b t)
+
+-- a book that has its length has at most 255 cycles
+pub few-cycles : (b : List ℕ) → hasSize b ≡ true → cyclesSaid b ≤ 255
+few-cycles b t = few (ltb 0 (cyclesSaid b)) refl
+  where
+    few : (some : Bool) → ltb 0 (cyclesSaid b) ≡ some → cyclesSaid b ≤ 255
+    few true e = there b 0 (sym (an-entry b t 0 (ltb-true 0 (cyclesSaid b) e))) .size .few
+    few false e = let none = ltb-false 0 (cyclesSaid b) e in omega arith
 
 -- ---- an entry
 module _ (b : List ℕ) (i : ℕ) (e : Entered b i) where
   pub is-there : There b i
   is-there = there b i (sym (an-entry b (e .sized) i (e .below)))
-
-  pub cycles-few : cyclesSaid b ≤ 255
-  cycles-few = is-there .size .few
 
   -- the entry that is handed out: it is long enough, and its first eight bytes are the instant
   module _ (l : List ℕ) (part : l ≡ bytesAt (entryPlace b i .start) (entryPlace b i .length) b) where
@@ -64,28 +76,16 @@ module _ (b : List ℕ) (i : ℕ) (e : Entered b i) where
 
 -- ---- an accepted book
 module _ (b : List ℕ) (accepted : viewRefusal b ≡ 0) where
-  record Accepted : Type 0 where
-    header : 4 ≤ length b
-    sound : Sound (contents b)
-
-  taken : Accepted
-  unfolding viewRefusal
-  taken = go (ltb (length b) 4) refl accepted
-    where
-      go : (short : Bool) → ltb (length b) 4 ≡ short → _≡_ {A = ℕ} (cond short 16 (refusal (linesOf (faults (contents b))))) 0 → Accepted
-      go true e z = absurd (omega arith)
-      go false e z = record { header = ltb-false (length b) 4 e; sound = none-sound (contents b) z }
-
   pub has-size : hasSize b ≡ true
   unfolding hasSize
-  has-size = rw (le-leb 4 (length b) (taken .header), taken .sound .sized)
+  has-size = let s = size b accepted in rw (le-leb 4 (length b) (omega arith), sound b accepted .sized)
 
   pub entered : (i : ℕ) → i < cyclesSaid b → Entered b i
   entered i h = record { sized = has-size; below = h }
 
   rises-at : (i : ℕ) → suc i < cyclesSaid b → instantAt b i < instantAt b (suc i)
   unfolding badInstant falls
-  rises-at i h = go (not (eqb (instantAt b (suc i)) _)) (taken .sound .instants (suc i) h)
+  rises-at i h = go (not (eqb (instantAt b (suc i)) _)) (sound b accepted .instants (suc i) h)
     where
       go : (other : Bool) → (other || (ltb 0 (suc i) && leb (instantAt b (suc i)) (instantAt b (suc i - 1)))) ≡ false → instantAt b i < instantAt b (suc i)
       go true e = let z : _≡_ {A = ℕ} 0 1 = cc in absurd (omega arith)

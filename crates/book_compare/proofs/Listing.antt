@@ -182,11 +182,11 @@ module _ (c : Cycle) (cs : List Cycle) (rc : StrictlyRises (cycleInstants (c ∷
           → StrictlyRises (instants (picked c cs d ds p q))
       pick true q ep eq r =
           let h = ltb-true (c .instant) (d .instant) ep in
-          let after = (h, after-trans (c .instant) (d .instant) (cycleInstants ds) h (rd .0)) in
+          let after : AllAfter (c .instant) (cycleInstants (d ∷ ds)) = (h, after-trans (c .instant) (d .instant) (cycleInstants ds) h (rd .0)) in
           (after-merged (c .instant) cs (d ∷ ds) (rc .0) after, later (d ∷ ds) rd)
       pick false true ep eq r =
           let h = ltb-true (d .instant) (c .instant) eq in
-          let after = (h, after-trans (d .instant) (c .instant) (cycleInstants cs) h (rc .0)) in
+          let after : AllAfter (d .instant) (cycleInstants (c ∷ cs)) = (h, after-trans (d .instant) (c .instant) (cycleInstants cs) h (rc .0)) in
           (after-merged (d .instant) (c ∷ cs) ds after (rd .0), r)
       pick false false ep eq r =
           let h = ltb-false (c .instant) (d .instant) ep in

@@ -32,86 +32,85 @@ module _ (b : List ℕ) (i : ℕ) where
   no-cycle h = let e : cyclesSaid b - i ≡ 0 = omega arith in ap (λ (m : ℕ). tabulate (cycleAt b) i m) e
 
 -- ---- a step
-module _ (a b : List ℕ) (i j : ℕ) where
-  pub first-ended : cyclesSaid a ≡ i → j < cyclesSaid b → Stepped a b i j (stepTo i (j + 1) (onlySecond (instantAt b j)))
-  first-ended p h = record {
-    goes-on = rw (no-cycle a i (omega arith), next-cycle b j h);
+module _ (a b : List ℕ) (i j : ℕ) (s : Step) where
+  pub first-ended : (t : ℕ) → i ≡ cyclesSaid a → j < cyclesSaid b → t ≡ instantAt b j → s ≡ stepTo i (j + 1) (onlySecond t) → Stepped a b i j s
+  first-ended t p h et es = rw es (record {
+    goes-on = rw (no-cycle a i (omega arith), next-cycle b j h, et);
     onward = omega arith;
     first-within = omega arith;
     second-within = omega arith;
-  }
+  })
 
-  pub second-ended : i < cyclesSaid a → cyclesSaid b ≡ j → Stepped a b i j (stepTo (i + 1) j (onlyFirst (instantAt a i)))
-  second-ended h p = record {
-    goes-on = rw (no-cycle b j (omega arith), next-cycle a i h);
+  pub second-ended : (t : ℕ) → i < cyclesSaid a → j ≡ cyclesSaid b → t ≡ instantAt a i → s ≡ stepTo (i + 1) j (onlyFirst t) → Stepped a b i j s
+  second-ended t h p et es = rw es (record {
+    goes-on = rw (no-cycle b j (omega arith), next-cycle a i h, et);
     onward = omega arith;
     first-within = omega arith;
     second-within = omega arith;
-  }
+  })
 
-  module _ (hi : Entered a i) (hj : Entered b j) where
-    pub first-lower : instantAt a i < instantAt b j → Stepped a b i j (stepTo (i + 1) j (onlyFirst (instantAt a i)))
-    first-lower l =
-        let u = hi .below in
-        let v = hj .below in
-        record {
-          goes-on = rw (next-cycle a i u, next-cycle b j v, lt-ltb (instantAt a i) (instantAt b j) l);
+  -- both have a cycle to come, of the instants t and u
+  module _ (hi : Entered a i) (hj : Entered b j) (t u : ℕ) (et : t ≡ instantAt a i) (eu : u ≡ instantAt b j) where
+    both-to-come : mergedFrom a b i j ≡ merged (cycleAt a i ∷ cyclesFrom a (i + 1)) (cycleAt b j ∷ cyclesFrom b (j + 1))
+    both-to-come = rw (next-cycle a i (hi .below), next-cycle b j (hj .below))
+
+    pub first-lower : t < u → s ≡ stepTo (i + 1) j (onlyFirst t) → Stepped a b i j s
+    first-lower l es =
+        let h = hi .below in
+        let k = hj .below in
+        let test : ltb (instantAt a i) (instantAt b j) ≡ true = lt-ltb (instantAt a i) (instantAt b j) (omega arith) in
+        rw es (record {
+          goes-on = both-to-come ∙ rw (test, et, next-cycle b j k);
           onward = omega arith;
           first-within = omega arith;
           second-within = omega arith;
-        }
+        })
 
-    pub second-lower : instantAt b j < instantAt a i → Stepped a b i j (stepTo i (j + 1) (onlySecond (instantAt b j)))
-    second-lower l =
-        let u = hi .below in
-        let v = hj .below in
-        let n = le-ltb (instantAt a i) (instantAt b j) (omega arith) in
-        record {
-          goes-on = rw (next-cycle a i u, next-cycle b j v, n, lt-ltb (instantAt b j) (instantAt a i) l);
+    pub second-lower : u < t → s ≡ stepTo i (j + 1) (onlySecond u) → Stepped a b i j s
+    second-lower l es =
+        let h = hi .below in
+        let k = hj .below in
+        let not-lower : ltb (instantAt a i) (instantAt b j) ≡ false = le-ltb (instantAt a i) (instantAt b j) (omega arith) in
+        let test : ltb (instantAt b j) (instantAt a i) ≡ true = lt-ltb (instantAt b j) (instantAt a i) (omega arith) in
+        rw es (record {
+          goes-on = both-to-come ∙ rw (not-lower, test, eu, next-cycle a i h);
           onward = omega arith;
           first-within = omega arith;
           second-within = omega arith;
-        }
+        })
 
-    pub one-instant : (t p : ℕ) → t ≡ instantAt a i → t ≡ instantAt b j → p ≡ firstDiffering (bodyAt a i) (bodyAt b j) → Stepped a b i j (pastBoth i j t p)
-    one-instant t p et es ep =
-        let u = hi .below in
-        let v = hj .below in
-        record {
-          goes-on =
-              rw (next-cycle a i u, next-cycle b j v, ← et, ← es, ← ep, le-ltb t t (omega arith))
-              (go (leb 65536 p) refl);
-          onward = go-on (leb 65536 p);
-          first-within = go-first (leb 65536 p);
-          second-within = go-second (leb 65536 p);
-        }
-      where
-        abbrev step : Bool → Step
-        step q = stepTo (i + 1) (j + 1) (cond q noLine (inBoth t p))
+    -- one instant, and bodies that first differ at p
+    module _ (tu : t ≡ u) (p : ℕ) (ep : p ≡ firstDiffering (bodyAt a i) (bodyAt b j)) where
+      at-once : mergedFrom a b i j ≡ cond (eqb p (length (bodyAt a i))) [] (inBoth t p ∷ []) ++ mergedFrom a b (i + 1) (j + 1)
+      at-once =
+          let not-first : ltb (instantAt a i) (instantAt b j) ≡ false = le-ltb (instantAt a i) (instantAt b j) (omega arith) in
+          let not-second : ltb (instantAt b j) (instantAt a i) ≡ false = le-ltb (instantAt b j) (instantAt a i) (omega arith) in
+          both-to-come ∙ rw (not-first, not-second, ep, et)
 
-        abbrev rest : List Difference
-        rest = mergedFrom a b (i + 1) (j + 1)
+      pub together-past : s ≡ pastBoth i j t p → Stepped a b i j s
+      together-past es = go (leb 65536 p) refl es
+        where
+          go : (q : Bool) → leb 65536 p ≡ q → s ≡ stepTo (i + 1) (j + 1) (cond q noLine (inBoth t p)) → Stepped a b i j s
+          go true e f =
+              let h = hi .below in
+              let k = hj .below in
+              let l = leb-true 65536 p e in
+              let w = body-length a i hi in
+              let m = differing-le (bodyAt a i) (bodyAt b j) in
+              let same : eqb p (length (bodyAt a i)) ≡ true = eq-eqb p (length (bodyAt a i)) (omega arith) in
+              rw f (record { goes-on = at-once ∙ rw same; onward = omega arith; first-within = omega arith; second-within = omega arith })
+          go false e f =
+              let h = hi .below in
+              let k = hj .below in
+              let l = leb-false 65536 p e in
+              let w = body-length a i hi in
+              let other : eqb p (length (bodyAt a i)) ≡ false = ne-eqb p (length (bodyAt a i)) (λ q. omega arith) in
+              rw f (record { goes-on = at-once ∙ rw other; onward = omega arith; first-within = omega arith; second-within = omega arith })
 
-        go : (q : Bool) → leb 65536 p ≡ q
-            → cond (eqb p (length (bodyAt a i))) [] (inBoth t p ∷ []) ++ rest ≡ linesOf (step q) ++ mergedFrom a b (step q .i) (step q .j)
-        go true e =
-            let l = leb-true 65536 p e in
-            let w = body-length a i hi in
-            let m = differing-le (bodyAt a i) (bodyAt b j) in
-            rw (eq-eqb p (length (bodyAt a i)) (omega arith))
-        go false e =
-            let l = leb-false 65536 p e in
-            let w = body-length a i hi in
-            rw (ne-eqb p (length (bodyAt a i)) (λ q. omega arith))
-
-        go-on : (q : Bool) → i + j < step q .i + step q .j
-        go-on q = omega arith
-
-        go-first : (q : Bool) → step q .i ≤ cyclesSaid a
-        go-first q = let u = hi .below in omega arith
-
-        go-second : (q : Bool) → step q .j ≤ cyclesSaid b
-        go-second q = let v = hj .below in omega arith
+-- the next step starts where this one came to
+pub placed-on : (a b : List ℕ) (i j : ℕ) (s : Step) → Placed a b i j → Stepped a b i j s → Placed a b (s .i) (s .j)
+placed-on a b i j s p on =
+    record { first-sized = p .first-sized; second-sized = p .second-sized; first-within = on .first-within; second-within = on .second-within }
 
 -- ---- the table
 
@@ -205,31 +204,29 @@ absurd-list l ls e = let z : _≡_ {A = ℕ} 0 1 = cc in absurd (impossible z)
 same-cycle : (c d : Cycle) → c .instant ≡ d .instant → c .body ≡ d .body → c ≡ d
 same-cycle c d p q = ap (λ (t : ℕ). record { instant = t; body = c .body }) p ∙ ap (λ (r : List ℕ). record { instant = d .instant; body = r }) q
 
+-- no line comes of c and what follows it, and d and what follows it, by the tests: their instants and bodies are the same
+pick-same : (c d : Cycle) (cs ds : List Cycle) (l m : List Difference) (p q r : Bool) → ltb (c .instant) (d .instant) ≡ p → ltb (d .instant) (c .instant) ≡ q
+    → eqb (firstDiffering (c .body) (d .body)) (length (c .body)) ≡ r → length (c .body) ≡ length (d .body) → (merged cs ds ≡ [] → cs ≡ ds)
+    → cond p (onlyFirst (c .instant) ∷ l)
+    (cond q (onlySecond (d .instant) ∷ m) (cond r [] (inBoth (c .instant) (firstDiffering (c .body) (d .body)) ∷ []) ++ merged cs ds))
+    ≡ [] → c ∷ cs ≡ d ∷ ds
+pick-same c d cs ds l m true q r ep eq er wide later e = absurd-list _ _ e
+pick-same c d cs ds l m false true r ep eq er wide later e = absurd-list _ _ e
+pick-same c d cs ds l m false false false ep eq er wide later e = absurd-list _ _ e
+pick-same c d cs ds l m false false true ep eq er wide later e =
+    let lp = ltb-false (c .instant) (d .instant) ep in
+    let lq = ltb-false (d .instant) (c .instant) eq in
+    let t : c .instant ≡ d .instant = omega arith in
+    let f = eqb-true (firstDiffering (c .body) (d .body)) (length (c .body)) er in
+    let head : c ≡ d = same-cycle c d t (same-list (c .body) (d .body) wide (omega arith)) in
+    let tail : cs ≡ ds = later e in
+    rw (head, tail)
+
 module _ (c : Cycle) (cs : List Cycle) (wide : length (c .body) ≡ 65536)
     (later : (es : List Cycle) → AllWide es → merged cs es ≡ [] → cs ≡ es) where
   same-against : (ds : List Cycle) → AllWide ds → merged (c ∷ cs) ds ≡ [] → c ∷ cs ≡ ds
   same-against [] v e = absurd-list _ _ e
-  same-against (d ∷ ds) v e =
-      pick (ltb (c .instant) (d .instant)) (ltb (d .instant) (c .instant)) (eqb place (length (c .body))) refl refl refl e
-    where
-      abbrev place : ℕ
-      place = firstDiffering (c .body) (d .body)
-
-      pick : (p q r : Bool) → ltb (c .instant) (d .instant) ≡ p → ltb (d .instant) (c .instant) ≡ q → eqb place (length (c .body)) ≡ r
-          → cond p (onlyFirst (c .instant) ∷ merged cs (d ∷ ds))
-          (cond q (onlySecond (d .instant) ∷ merged (c ∷ cs) ds) (cond r [] (inBoth (c .instant) place ∷ []) ++ merged cs ds))
-          ≡ [] → c ∷ cs ≡ d ∷ ds
-      pick true q r ep eq er e = absurd-list _ _ e
-      pick false true r ep eq er e = absurd-list _ _ e
-      pick false false false ep eq er e = absurd-list _ _ e
-      pick false false true ep eq er e =
-          let lp = ltb-false (c .instant) (d .instant) ep in
-          let lq = ltb-false (d .instant) (c .instant) eq in
-          let t : c .instant ≡ d .instant = omega arith in
-          let f = eqb-true place (length (c .body)) er in
-          let head : c ≡ d = same-cycle c d t (same-list (c .body) (d .body) (wide ∙ sym (v .0)) (omega arith)) in
-          let tail : cs ≡ ds = later ds (v .1) e in
-          rw (head, tail)
+  same-against (d ∷ ds) v e = pick-same c d cs ds _ _ _ _ _ refl refl refl (wide ∙ sym (v .0)) (later ds (v .1)) e
 
 pub same-cycles : (cs ds : List Cycle) → AllWide cs → AllWide ds → merged cs ds ≡ [] → cs ≡ ds
 same-cycles [] [] u v e = refl

@@ -32,7 +32,7 @@ pub fn compare(first: &[u8], second: &[u8], table: &mut [u64]) -> Compared
         return Compared::Refused(b);
     }
     if book::year(first) != book::year(second) {
-        return Compared::Refused(21);
+        return Compared::Refused(refusal::YEARS_DIFFER);
     }
     Compared::Lines(merge::put_lines(first, second, table))
 }
