@@ -79,14 +79,12 @@ whole number holds = record { line = number when holds; entry = 0 }
 abbrev pub among : ℕ → ℕ → (ℕ → Bool) → Fault
 among n number bad = record { line = number when ltb (lowest bad 0 n) n; entry = lowest bad 0 n }
 
+-- those of the entries: every body is looked at before any instant, and every instant before any offset
+abbrev pub entryFaults : Contents → List Fault
+entryFaults c = among (c .count) 17 (badBody c) ∷ among (c .count) 18 (badInstant c) ∷ among (c .count) 19 (badOffset c) ∷ []
+
 abbrev pub faults : Contents → List Fault
-faults c =
-    whole 13 (not (inSpan (c .year)))
-    ∷ whole 16 (not (isSized c))
-    ∷ among (c .count) 17 (badBody c)
-    ∷ among (c .count) 18 (badInstant c)
-    ∷ among (c .count) 19 (badOffset c)
-    ∷ []
+faults c = whole 13 (not (inSpan (c .year))) ∷ whole 16 (not (isSized c)) ∷ entryFaults c
 
 -- in bytes, of which fewer than 4 say nothing
 abbrev pub bookFaults : List ℕ → List Fault

@@ -1,3 +1,4 @@
 pub mod Answers
+pub mod BookCrossed
 pub mod FoundCrossed
 pub mod WordCrossed

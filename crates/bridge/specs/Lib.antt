@@ -1,3 +1,4 @@
+pub mod Books
 pub mod Finding
 pub mod LentPlaces
 pub mod Word72

@@ -1,11 +1,17 @@
-// The library for programs in other languages: exported entries over the reader, the writer, word 72, its codecs and the lookup, one file for each.
+// The library for programs in other languages: exported entries over the reader, the writer, word 72, its codecs, the lookup and books, one file for each.
 // include/pcd.h declares them for C.
+mod books;
 mod codecs;
 mod finding;
 mod reading;
 mod word72;
 mod writing;
 
+pub use books::pcd_book_body;
+pub use books::pcd_book_entry;
+pub use books::pcd_book_header;
+pub use books::pcd_book_view_refusal;
+pub use books::pcd_book_write;
 pub use codecs::pcd_decode_number;
 pub use codecs::pcd_decode_time;
 pub use codecs::pcd_encode_number;
