@@ -1,8 +1,9 @@
 // The proved reader against the plain one: differential STREAMS SEED. Stream i has the seed SEED + i, so that a stream which fails is run
 // alone by `1` and its own seed. The readers that the timing compares with are held to the same, and each seed tries the lookup, the
-// writer, the codecs, every item of every kind of word 72 and a book of cycles too.
+// writer, the codecs, every item of every kind of word 72, a book of cycles and two books compared too.
 
 mod book;
+mod book_compare;
 mod bridge;
 mod bytewise;
 mod codecs;
@@ -74,6 +75,7 @@ struct Seen {
     ended_in: [u64; 17],
     word72: items::Met,
     books: book::Met,
+    comparisons: book_compare::Met,
 }
 
 impl Seen {
@@ -103,7 +105,7 @@ impl Seen {
     }
 
     // The cases and how often each was met.
-    fn cases(&self) -> [(&str, Vec<(&str, u64)>); 4] {
+    fn cases(&self) -> [(&str, Vec<(&str, u64)>); 5] {
         const ENDED_IN: [&str; 17] = [
             "stray", "split", "weak1", "weak2", "weak3", "open", "hunting", "match", "good", "damaged", "unsynced", "placed", "hole", "majors",
             "broken", "loose", "building",
@@ -117,7 +119,7 @@ impl Seen {
             ("refused 3", self.refused[3]),
         ];
         let streams = ENDED_IN.iter().copied().zip(self.ended_in).collect();
-        [("calls", calls), ("streams that ended with some", streams), ("word 72", self.word72.cases()), ("books", self.books.cases())]
+        [("calls", calls), ("streams that ended with some", streams), ("word 72", self.word72.cases()), ("books", self.books.cases()), ("books compared", self.comparisons.cases())]
     }
 
     // Prints how often each case was met; how many never were, where all should have been.
@@ -176,7 +178,8 @@ impl Trial {
         lookup::trials(&mut self.r)?;
         codecs::trials(&mut self.r)?;
         items::trials(&mut self.r, &mut seen.word72)?;
-        book::trials(&mut self.r, &mut seen.books)
+        book::trials(&mut self.r, &mut seen.books)?;
+        book_compare::trials(&mut self.r, &mut seen.comparisons)
     }
 
     // The proved reader, in calls cut at random, with refused calls among them.

@@ -25,9 +25,7 @@ abbrev pub compareLines : List ℕ → List ℕ → List ℕ → List Line
 compareLines a b table =
     2 when not (eqb (length table) tableLength)
     ∷ faultOf a
-    ∷ faultOf b
-    ∷ 21 when not (eqb (yearSaid a) (yearSaid b))
-    ∷ []
+    ∷ faultOf b ∷ 21 when not (eqb (yearSaid a) (yearSaid b)) ∷ []
 
 -- ---- the table
 
