@@ -10,7 +10,8 @@ pub extern "C" fn pcd_book_compare(
     table: &mut [u64],
     lines: &mut u64,
 ) -> u8
-    ensures { λ r. ⌜ CompareCrossed (now (first .entry)) (now (second .entry)) r (now (table .entry)) (now (table .exit)) (now (lines .entry)) (now (lines .exit)) ⌝ }
+    ensures { λ r. ⌜ CompareCrossed (now (first .entry)) (now (second .entry)) r (now (table .entry)) (now (table .exit))
+        (now (lines .entry)) (now (lines .exit)) ⌝ }
 {
     match book_compare::compare(first, second, table) {
         Compared::Lines(n) => {

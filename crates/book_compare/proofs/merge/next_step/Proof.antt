@@ -18,7 +18,8 @@ instant-requires c κs =
 
 past-second-requires : tie.Need-past-second-requires
 past-second-requires c κs =
-    let start = c .before .before .before .before .before in
+    let tested = c .before in
+    let start = tested .before .before .before .before in
     let few = few-cycles _ (start .pre .0 .second-sized) in
     omega arith
 
@@ -34,29 +35,33 @@ cycles-requires-2 c κs = search needs
 
 instant-requires-2 : tie.Need-instant-requires-2
 instant-requires-2 c κs =
-    let start = c .before .before .before .before .before .before in
-    let n = count-is _ (start .pre .0 .first-sized) _ (c .before .before .before .cycles .ensures) in
+    let told = c .before .before .before in
+    let start = told .before .before .before in
+    let n = count-is _ (start .pre .0 .first-sized) _ (told .cycles .ensures) in
     let m = count-is _ (start .pre .0 .second-sized) _ (c .before .cycles2 .ensures) in
     record { sized = start .pre .0 .first-sized; below = omega arith }
 
 past-first-requires : tie.Need-past-first-requires
 past-first-requires c κs =
-    let start = c .before .before .before .before .before .before .before in
+    let told = c .before .before .before .before in
+    let start = told .before .before .before in
     let few = few-cycles _ (start .pre .0 .first-sized) in
     omega arith
 
 returns-2 : tie.Need-returns-2
 returns-2 c =
     let tested = c .before .before in
-    let start = tested .before .before .before .before .before .before in
-    let n = count-is _ (start .pre .0 .first-sized) _ (tested .before .before .before .cycles .ensures) in
+    let told = tested .before .before .before in
+    let start = told .before .before .before in
+    let n = count-is _ (start .pre .0 .first-sized) _ (told .cycles .ensures) in
     let m = count-is _ (start .pre .0 .second-sized) _ (tested .before .cycles2 .ensures) in
     second-ended _ _ _ _ _ _ (omega arith) (omega arith) (c .before .instant2 .ensures) (c .past-first .ensures)
 
 step-both-requires : tie.Need-step-both-requires
 step-both-requires c κs =
-    let start = c .before .before .before .before .before .before in
-    let n = count-is _ (start .pre .0 .first-sized) _ (c .before .before .before .cycles .ensures) in
+    let told = c .before .before .before in
+    let start = told .before .before .before in
+    let n = count-is _ (start .pre .0 .first-sized) _ (told .cycles .ensures) in
     let m = count-is _ (start .pre .0 .second-sized) _ (c .before .cycles2 .ensures) in
     (record { sized = start .pre .0 .first-sized; below = omega arith }, record { sized = start .pre .0 .second-sized; below = omega arith })
 

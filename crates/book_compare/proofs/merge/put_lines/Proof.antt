@@ -26,15 +26,19 @@ cycles-requires-2 c κs = search needs
 
 add-end : tie.Need-add-end Inv-loop μ-loop
 add-end c =
-    let start = c .before .before .before .before .before in
-    let n = count-is _ (start .pre .0 .first-sized) _ (c .before .cycles .ensures) in
+    let told = c .before in
+    let start = told .before .before .before .before in
+    let n = count-is _ (start .pre .0 .first-sized) _ (told .cycles .ensures) in
     let m = count-is _ (start .pre .0 .second-sized) _ (c .cycles2 .ensures) in
     let few = few-cycles _ (start .pre .0 .first-sized) in
     let few-2 = few-cycles _ (start .pre .0 .second-sized) in
     omega arith
 
 loop-holds : tie.Need-loop-holds Inv-loop μ-loop
-loop-holds c = (c .before .before .before .before .before .pre .0, omega arith, search needs, begun _ _ _)
+loop-holds c =
+    let told = c .before in
+    let start = told .before .before .before .before in
+    (start .pre .0, omega arith, search needs, begun _ _ _)
 
 add-loop : tie.Need-add-loop Inv-loop μ-loop
 add-loop c =

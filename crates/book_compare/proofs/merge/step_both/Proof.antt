@@ -17,7 +17,8 @@ instant-requires-2 c κs = search needs
 
 past-first-requires : tie.Need-past-first-requires
 past-first-requires c κs =
-    let start = c .before .before .before .before .before in
+    let told = c .before in
+    let start = told .before .before .before .before in
     let few = few-cycles _ (start .pre .0 .sized) in
     let below = start .pre .0 .below in
     omega arith
@@ -31,7 +32,8 @@ returns c =
 
 past-second-requires : tie.Need-past-second-requires
 past-second-requires c κs =
-    let start = c .before .before .before .before .before .before in
+    let told = c .before .before in
+    let start = told .before .before .before .before in
     let few = few-cycles _ (start .pre .1 .sized) in
     let below = start .pre .1 .below in
     omega arith
@@ -59,7 +61,8 @@ first-differing-requires c κs =
 
 past-both-requires : tie.Need-past-both-requires
 past-both-requires c κs =
-    let told = c .before .before .before .before .before in
+    let tested = c .before .before .before in
+    let told = tested .before .before in
     let start = told .before .before .before .before in
     let few = few-cycles _ (start .pre .0 .sized) in
     let below = start .pre .0 .below in
