@@ -114,7 +114,13 @@ fn compare(first: &[u8], n: usize, second: &[u8], m: usize, table: &mut [u64]) -
         return false;
     }
     let size = number(&bytes) as usize;
-    if (first.len() < n) | (second.len() < m) | (table.len() < size) {
+    if first.len() < n {
+        return false;
+    }
+    if second.len() < m {
+        return false;
+    }
+    if table.len() < size {
         return false;
     }
     put_pattern(table);
