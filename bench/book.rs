@@ -1,4 +1,4 @@
-// The book of cycles once more, from paper 02, request 7, and the proved entries held to it. An answer is what is given, or the number of the
+// The book of cycles once more, from paper 02, requests 7 and 8, and the proved entries held to it. An answer is what is given, or the number of the
 // refusal.
 
 use crate::bridge;
@@ -288,6 +288,12 @@ fn view_trial(r: &mut Random, book: &[u8], met: &mut Met) -> Result<(), String> 
     let number = bridge::book_view_refusal(book);
     if number != refusal {
         return Err(format!("book_view_refusal answers {number}, not {refusal} for entry {entry}"));
+    }
+    // Request 8: the entry is told in every case, 0 where the book is accepted.
+    let mut told = r.next();
+    let number = bridge::book_check(book, &mut told);
+    if (number, told) != (refusal, entry as u64) {
+        return Err(format!("book_check answers {number} and entry {told}, not {refusal} and {entry}"));
     }
     let lent = [r.next(), r.next()];
     let mut left = lent;

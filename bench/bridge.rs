@@ -35,6 +35,7 @@ extern "C" {
     ) -> u8;
     fn pcd_book_write(year: u64, bodies: *const u8, bodies_len: usize, out: *mut u8, out_len: usize) -> u8;
     fn pcd_book_view_refusal(book: *const u8, book_len: usize) -> u8;
+    fn pcd_book_check(book: *const u8, book_len: usize, out: *mut u64) -> u8;
     fn pcd_book_header(book: *const u8, book_len: usize, out: *mut [u64; 2]) -> u8;
     fn pcd_book_entry(book: *const u8, book_len: usize, i: u64, out: *mut [u64; 2]) -> u8;
     fn pcd_book_body(book: *const u8, book_len: usize, i: u64, out: *mut [u64; 2]) -> u8;
@@ -155,6 +156,10 @@ pub fn book_write(year: u64, bodies: &[u8], out: &mut [u8]) -> u8 {
 
 pub fn book_view_refusal(book: &[u8]) -> u8 {
     unsafe { pcd_book_view_refusal(book.as_ptr(), book.len()) }
+}
+
+pub fn book_check(book: &[u8], out: &mut u64) -> u8 {
+    unsafe { pcd_book_check(book.as_ptr(), book.len(), out) }
 }
 
 pub fn book_header(book: &[u8], out: &mut [u64; 2]) -> u8 {

@@ -169,6 +169,11 @@ uint8_t pcd_book_write(uint64_t year, const uint8_t *bodies, size_t bodies_len, 
 /* Whether the bytes are a book. Refused, in this order: 16, fewer than 4 bytes; 13, 16, 17, 18, 19. */
 uint8_t pcd_book_view_refusal(const uint8_t *book, size_t book_len);
 
+/* Checks a book that somebody else wrote: returns the number of its first fault, in the order 16 for fewer than 4 bytes, 13, 16, 17, 18, 19, and 0
+ * where the book is what pcd_book_write gives for some year and some bodies. out gets the lowest entry that has the fault, 0 for 13 and 16 and
+ * where there is none; it is written in every case. */
+uint8_t pcd_book_check(const uint8_t *book, size_t book_len, uint64_t *out);
+
 /* The number of cycles and the year that a book says. Only its length is tested. Refused: 16. */
 uint8_t pcd_book_header(const uint8_t *book, size_t book_len, uint64_t out[2]);
 

@@ -1,5 +1,5 @@
 #!/usr/bin/env python3
-"""Vectors for the book of cycles (paper 02, request 7), with the answers of an independent implementation.
+"""Vectors for the book of cycles (paper 02, requests 7 and 8), with the answers of an independent implementation.
 
 Run from the repository's root: python3 tests/book_vectors.py
 It writes crates/book_vectors/stdin (records) and crates/book_vectors/stdout (their lines).
@@ -14,6 +14,7 @@ numbers have their first byte highest.
   5  fill book     the first n bytes of `book` become v
   6  view          of the first n bytes of `book`
   7  parts         entry v and body v of the first n bytes of `book`, by the slice and by a view
+  8  check         of the first n bytes of `book`
 Lines: `write R sum S`, S the sum of the buffer afterwards; `view R cycles C year Y`; `part R entry P L HEX body Q M SUM` with places and
 lengths, and `view R entry L HEX body M SUM`.
 
@@ -132,6 +133,26 @@ def fault(book):
     return 0 if [place for _, place in entries] == [offset(cycles, i) for i in range(cycles)] else 19
 
 
+def lowest_entry(book):
+    """The lowest entry that has the fault of the book: 0 for a fault of the whole book (request 8)."""
+    number = fault(book)
+    if number not in (17, 18, 19):
+        return 0
+    cycles, year = fits(book)
+    own = [cycle(body, year) for body in cut(book[offset(cycles, 0):], BODY)]
+    entries = list(struct.iter_unpack(">QI", book[HEADER:offset(cycles, 0)]))
+
+    def has_it(i):
+        if number == 17:
+            return own[i] is None
+        if number == 19:
+            return entries[i][1] != offset(cycles, i)
+        # One that does not rise is the later entry's fault.
+        return entries[i][0] != own[i] or (i > 0 and entries[i][0] <= entries[i - 1][0])
+
+    return [has_it(i) for i in range(cycles)].index(True)
+
+
 def part(book, i):
     """The number of the refusal, and the places of entry i and body i."""
     if fits(book) is None:
@@ -211,7 +232,13 @@ class Bench:
     def write_cycles(self, cycles, year):
         return self.write(BODY * cycles, year, size(cycles))
 
+    def check(self, n):
+        self.record(8, n)
+        number = fault(self.book[:n])
+        self.say(number, "check %d entry %d" % (number, lowest_entry(self.book[:n])) if number else "check accepted")
+
     def view(self, n):
+        self.check(n)
         self.record(6, n)
         number = fault(self.book[:n])
         self.say(number, "view %d cycles %d year %d" % ((number,) + (fits(self.book[:n]) if number == 0 else (0, 0))))
@@ -493,7 +520,7 @@ def main():
     files_of_wrong_length(bench, 5)
     swapped_entries(bench)
     most_cycles(bench)
-    wanted = {"write": (0, 2, 13, 17, 18), "view": (0, 13, 16, 17, 18, 19, 20), "part": (0, 16, 20)}
+    wanted = {"write": (0, 2, 13, 17, 18), "check": (0, 13, 16, 17, 18, 19), "view": (0, 13, 16, 17, 18, 19, 20), "part": (0, 16, 20)}
     assert set(bench.met) == {(word, number) for word, numbers in wanted.items() for number in numbers}
     keep(CRATE, {"stdin": bytes(bench.input), "stdout": "".join(line + "\n" for line in bench.lines).encode()})
     print(len(bench.lines), "lines")

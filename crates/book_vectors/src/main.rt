@@ -1,6 +1,7 @@
 // Runs books on the records of standard input and writes lines for each answer: what tests/book_vectors.py makes, with the answers that it
 // worked out by other means. Two areas, of 32 bodies and of a book of as many, stay from record to record.
 use base::format;
+use book_check::Verdict;
 use cycle::CYCLE;
 use vectors::field;
 use vectors::filled;
@@ -43,6 +44,7 @@ fn turn(bodies: &mut [u8], book: &mut [u8]) -> bool {
         5 => return fill(book, n, value),
         6 => return view(book, n),
         7 => return parts(book, n, value),
+        8 => return check(book, n),
         _ => return false,
     }
 }
@@ -181,6 +183,23 @@ fn put_view(bytes: &[u8]) {
     field(b"view ", book::view_refusal(bytes) as u64);
     field(b" cycles ", book_view::cycles_of(bytes));
     field(b" year ", book_view::year_of(bytes));
+    put(b"\n");
+}
+
+fn check(area: &[u8], n: usize) -> bool {
+    if area.len() < n {
+        return false;
+    }
+    match book_check::check(&area[0..n]) {
+        Verdict::Accepted => put(b"check accepted\n"),
+        Verdict::Faulty { number, entry } => put_fault(number, entry),
+    }
+    true
+}
+
+fn put_fault(number: u8, entry: u64) {
+    field(b"check ", number as u64);
+    field(b" entry ", entry);
     put(b"\n");
 }
 

@@ -5,10 +5,20 @@ use Prim.Native.Nat.{ℕ}
 use native.Mathlib.Omega.{arith}
 use Rattle.base.specs.Refusal.{answered, refusal}
 use Rattle.base.proofs.Refusals.{Positive, refused-is, given-is}
+use Rattle.book.specs.declared.faults.FirstFault.{FirstFault}
 use Rattle.book.specs.declared.parts.Place.{Place}
 use Rattle.book.specs.Layout.{entryStart, bodyStart, cyclesSaid, yearSaid}
 use Rattle.book.specs.Parts.{headerLines, partLines, headerRefusal, partRefusal, countOf, yearOf, place, nowhere, entryPlace, bodyPlace}
-use Rattle.bridge.specs.Books.{HeaderCrossed, EntryCrossed, BodyCrossed}
+use Rattle.book_check.specs.declared.Verdict.{Verdict}
+use Rattle.book_check.specs.Checking.{faultIn}
+use Rattle.book_check.specs.Promise.{CheckPromise}
+use Rattle.bridge.specs.Books.{CheckCrossed, HeaderCrossed, EntryCrossed, BodyCrossed}
+
+-- each case of the verdict is the first fault
+pub check-crossed : (b : List ℕ) (r a : Verdict) → CheckPromise b r → r ≡ a → CheckCrossed b (faultIn a .number) (faultIn a .entry)
+check-crossed b r a p e =
+    let is : faultIn a ≡ _ = ap faultIn (sym e) ∙ p .fault-is in
+    record { number-is = ap (λ (f : FirstFault). f .number) is; entry-is = ap (λ (f : FirstFault). f .entry) is }
 
 part-numbers : (b : List ℕ) (i : ℕ) → Positive (partLines b i)
 part-numbers b i = (λ e. omega arith, (λ e. omega arith, tt))

@@ -3,7 +3,8 @@
 ghost use mathlib.Core.Path.{_≡_};
 ghost use Rattle.book.specs.Faults.{viewRefusal};
 ghost use Rattle.book.specs.Promise.{WritePromise};
-ghost use Rattle.bridge.specs.Books.{HeaderCrossed, EntryCrossed, BodyCrossed};
+ghost use Rattle.bridge.specs.Books.{CheckCrossed, HeaderCrossed, EntryCrossed, BodyCrossed};
+use book_check::Verdict;
 
 // Writes the book of a year and of the bodies of its cycles, end to end.
 #[no_mangle]
@@ -19,6 +20,24 @@ pub extern "C" fn pcd_book_view_refusal(book: &[u8]) -> u8
     ensures { λ r. ⌜ r ≡ viewRefusal (now (book .entry)) ⌝ }
 {
     book::view_refusal(book)
+}
+
+// Checks a book: the number of its first fault, 0 where it is accepted. `out` gets the lowest entry that has the fault, 0 where there is none: that is
+// part of the answer, so it is written in every case.
+#[no_mangle]
+pub extern "C" fn pcd_book_check(book: &[u8], out: &mut u64) -> u8
+    ensures { λ r. ⌜ CheckCrossed (now (book .entry)) r (now (out .exit)) ⌝ }
+{
+    match book_check::check(book) {
+        Verdict::Accepted => {
+            *out = 0;
+            return 0;
+        }
+        Verdict::Faulty { number, entry } => {
+            *out = entry;
+            return number;
+        }
+    }
 }
 
 // `out` gets the number of cycles, then the year.

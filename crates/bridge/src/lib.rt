@@ -9,6 +9,7 @@ mod word72;
 mod writing;
 
 pub use books::pcd_book_body;
+pub use books::pcd_book_check;
 pub use books::pcd_book_entry;
 pub use books::pcd_book_header;
 pub use books::pcd_book_view_refusal;
