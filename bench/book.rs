@@ -17,7 +17,7 @@ pub fn size(cycles: usize) -> usize {
     HEADER + (ENTRY + BODY) * cycles
 }
 
-fn offset(cycles: usize, i: usize) -> usize {
+pub fn offset(cycles: usize, i: usize) -> usize {
     HEADER + ENTRY * cycles + BODY * i
 }
 
@@ -31,7 +31,7 @@ fn column_place(k: usize, place: usize) -> usize {
 }
 
 // The instant of a body: none where it is not as described.
-fn cycle(body: &[u8], year: u64) -> Option<u64> {
+pub fn cycle(body: &[u8], year: u64) -> Option<u64> {
     let whole = |(at, minor): (usize, &[u8])| minor[..3] == FRAME_SYNC && usize::from(minor[NUMBER_PLACE]) == at % FRAME;
     let column = |k: usize| (0..FRAME).map(|place| body[column_place(k, place)]).collect::<Vec<u8>>();
     // 0 where the column bears none.
@@ -85,7 +85,7 @@ fn header(book: &[u8]) -> Result<[u64; 2], u8> {
 }
 
 // The first fault, and the lowest entry that has it.
-fn fault(book: &[u8]) -> Result<(), (u8, usize)> {
+pub fn fault(book: &[u8]) -> Result<(), (u8, usize)> {
     if book.len() >= HEADER {
         in_span(number(&book[2..4])).map_err(|number| (number, 0))?;
     }
@@ -150,7 +150,7 @@ impl Met {
 }
 
 // A body as described but for its time code, which is this one.
-fn put_body(r: &mut Random, body: &mut [u8], code: &[u8]) {
+pub fn put_body(r: &mut Random, body: &mut [u8], code: &[u8]) {
     r.fill(body);
     for (at, minor) in body.chunks_exact_mut(FRAME).enumerate() {
         minor[..3].copy_from_slice(&FRAME_SYNC);
@@ -168,7 +168,7 @@ fn put_column(body: &mut [u8], k: usize, bytes: &[u8]) {
 }
 
 // In a leap year's writing, so that day 366 can be put too.
-fn put_instant(r: &mut Random, body: &mut [u8], instant: u64) {
+pub fn put_instant(r: &mut Random, body: &mut [u8], instant: u64) {
     if let Ok(code) = write_time(2000, r.below(16) as u64, instant, 7) {
         put_column(body, 0, &code);
     }

@@ -40,6 +40,15 @@ extern "C" {
     fn pcd_book_header(book: *const u8, book_len: usize, out: *mut [u64; 2]) -> u8;
     fn pcd_book_entry(book: *const u8, book_len: usize, i: u64, out: *mut [u64; 2]) -> u8;
     fn pcd_book_body(book: *const u8, book_len: usize, i: u64, out: *mut [u64; 2]) -> u8;
+    fn pcd_book_compare(
+        first: *const u8,
+        first_len: usize,
+        second: *const u8,
+        second_len: usize,
+        table: *mut u64,
+        table_len: usize,
+        lines: *mut u64,
+    ) -> u8;
     fn pcd_find(instants: *const u64, instants_len: usize, wanted: u64, out: *mut [u64; 2]) -> u8;
 }
 
@@ -170,4 +179,8 @@ pub fn book_entry(book: &[u8], i: u64, out: &mut [u64; 2]) -> u8 {
 
 pub fn book_body(book: &[u8], i: u64, out: &mut [u64; 2]) -> u8 {
     unsafe { pcd_book_body(book.as_ptr(), book.len(), i, out) }
+}
+
+pub fn book_compare(first: &[u8], second: &[u8], table: &mut [u64], lines: &mut u64) -> u8 {
+    unsafe { pcd_book_compare(first.as_ptr(), first.len(), second.as_ptr(), second.len(), table.as_mut_ptr(), table.len(), lines) }
 }

@@ -1,9 +1,10 @@
 // The proved reader against the plain one: differential STREAMS SEED. Stream i has the seed SEED + i, so that a stream which fails is run
 // alone by `1` and its own seed. The readers that the timing compares with are held to the same, and each seed tries the lookup, the
-// writer, the codecs, every item of every kind of word 72 and a book of cycles too.
+// writer, the codecs, every item of every kind of word 72, a book of cycles and two books compared too.
 
 mod alike;
 mod book;
+mod book_compare;
 mod bridge;
 mod bytewise;
 mod codecs;
@@ -83,6 +84,7 @@ struct Seen {
     ended_in: [u64; 17],
     word72: items::Met,
     books: book::Met,
+    comparisons: book_compare::Met,
 }
 
 impl Seen {
@@ -142,6 +144,7 @@ impl Seen {
             ("streams that ended with some", streams),
             ("word 72", self.word72.cases()),
             ("books", self.books.cases()),
+            ("books compared", self.comparisons.cases()),
         ]
     }
 
@@ -206,7 +209,8 @@ impl Trial {
         lookup::trials(&mut self.r)?;
         codecs::trials(&mut self.r)?;
         items::trials(&mut self.r, &mut seen.word72)?;
-        book::trials(&mut self.r, &mut seen.books)
+        book::trials(&mut self.r, &mut seen.books)?;
+        book_compare::trials(&mut self.r, &mut seen.comparisons)
     }
 
     fn readers(&mut self, seen: &mut Seen) -> Result<(), String> {

@@ -17,6 +17,7 @@ mod stream;
 #[allow(dead_code)]
 mod tally;
 
+use std::hint::black_box;
 use std::time::Instant;
 
 use stream::Random;
@@ -44,6 +45,12 @@ fn main() {
     print_book("1 (0.07 MB)", 1);
     print_book("16 (1.0 MB)", 16);
     print_book("255 (16.7 MB)", book::MOST);
+    println!();
+    println!("comparing two equal books: ms, best of {BOOKS} rounds; then what it takes beside its two checks, as a ratio to memcmp of the bodies");
+    println!();
+    println!("{:<18} | {:>7} {:>7} {:>7} | {:>7}", "cycles", "compare", "checks", "memcmp", "beside");
+    print_compare("16 (1.0 MB)", 16);
+    print_compare("255 (16.7 MB)", book::MOST);
 }
 
 const BOOKS: usize = 60;
@@ -69,6 +76,31 @@ fn print_book(name: &str, cycles: usize) {
     assert!(out[0] == wanted && out[1] == wanted, "the books differ");
     let [write, view, copy] = best;
     println!("{name:<18} | {write:>7.3} {view:>7.3} {copy:>7.3} | {:>7.2} {:>7.2}", write / copy, view / copy);
+}
+
+// Comparing a book with an equal one, checking both, and comparing as many bytes of bodies by what the machine has for that.
+fn print_compare(name: &str, cycles: usize) {
+    let bodies = book::any_bodies(&mut Random(5), cycles, 2000);
+    let books = [book::laid_out(2000, &bodies), book::laid_out(2000, &bodies)];
+    let others = bodies.clone();
+    let mut table = vec![0; 1530];
+    let mut best = [f64::INFINITY; 3];
+    // As many bytes a round for a small book as for a large one.
+    let turns = (64 / cycles).max(1);
+    let mut time = |place: usize, work: &mut dyn FnMut()| {
+        let started = Instant::now();
+        (0..turns).for_each(|_| work());
+        best[place] = best[place].min(started.elapsed().as_secs_f64() * 1e3 / turns as f64);
+    };
+    for _ in 0..BOOKS {
+        let mut lines = u64::MAX;
+        time(0, &mut || assert_eq!(bridge::book_compare(&books[0], &books[1], &mut table, &mut lines), 0));
+        assert_eq!(lines, 0);
+        time(1, &mut || books.iter().for_each(|book| assert_eq!(bridge::book_view_refusal(book), 0)));
+        time(2, &mut || assert!(black_box(&bodies) == black_box(&others)));
+    }
+    let [compare, checks, memcmp] = best;
+    println!("{name:<18} | {compare:>7.3} {checks:>7.3} {memcmp:>7.3} | {:>7.2}", (compare - checks) / memcmp);
 }
 
 // Place 72 of each of the 128 minor frames, by steps of 128, and by the place of each.

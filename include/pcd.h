@@ -47,6 +47,7 @@ extern "C" {
 #define PCD_WRONG_INSTANT 18     /* an entry's instant is not its body's, or is no later than the one before */
 #define PCD_WRONG_OFFSET 19      /* an entry's offset is not its body's */
 #define PCD_NO_SUCH_ENTRY 20     /* the book has no such entry */
+#define PCD_YEARS_DIFFER 21      /* two books are of different years */
 
 /* ---- Sizes */
 
@@ -58,6 +59,7 @@ extern "C" {
 #define PCD_NUMBER 6             /* the bytes of a number of MIL-STD-1750, extended */
 #define PCD_ENTRY 12             /* the bytes of an entry of a book: instant (8) and offset (4), first byte highest */
 #define PCD_BODY 65536           /* the bytes of a body: four major frames */
+#define PCD_COMPARISON 1530      /* the numbers of the table of a comparison: 510 lines of three */
 
 /* ---- The reader
  *
@@ -203,6 +205,12 @@ uint8_t pcd_book_header(const uint8_t *book, size_t book_len, uint64_t out[2]);
 /* Where entry i, or body i, stands in a book, and its length. Only the book's length is tested, and no offset in it is used. Refused: 16, 20. */
 uint8_t pcd_book_entry(const uint8_t *book, size_t book_len, uint64_t i, uint64_t out[2]);
 uint8_t pcd_book_body(const uint8_t *book, size_t book_len, uint64_t i, uint64_t out[2]);
+
+/* How two books differ, into a table of PCD_COMPARISON numbers: lines of three by rising instant, which are the instant; 1 for only in the first, 2
+ * for only in the second, 3 for in both with different bodies; the place in the body of the first byte that differs, 0 in cases 1 and 2.
+ * lines gets how many there are; the rest of the table stays. Books are equal byte for byte exactly where there are none. Refused, in this order: 2,
+ * another size of the table; those of pcd_book_view_refusal for the first, then for the second; 21. */
+uint8_t pcd_book_compare(const uint8_t *first, size_t first_len, const uint8_t *second, size_t second_len, uint64_t *table, size_t table_len, uint64_t *lines);
 
 #ifdef __cplusplus
 }

@@ -58,3 +58,6 @@ pub const WRONG_OFFSET: u8 = 19;
 
 // A book has no such entry.
 pub const NO_SUCH_ENTRY: u8 = 20;
+
+// The years of two books differ.
+pub const YEARS_DIFFER: u8 = 21;

@@ -1,4 +1,5 @@
 pub mod Answers
 pub mod BookCrossed
+pub mod ComparedCrossed
 pub mod FoundCrossed
 pub mod WordCrossed

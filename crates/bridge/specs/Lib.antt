@@ -1,4 +1,5 @@
 pub mod Books
+pub mod Comparing
 pub mod Finding
 pub mod LentPlaces
 pub mod Word72

@@ -2,6 +2,7 @@
 // include/pcd.h declares them for C.
 mod books;
 mod codecs;
+mod comparing;
 mod finding;
 mod reading;
 mod word72;
@@ -17,6 +18,7 @@ pub use codecs::pcd_decode_number;
 pub use codecs::pcd_decode_time;
 pub use codecs::pcd_encode_number;
 pub use codecs::pcd_encode_time;
+pub use comparing::pcd_book_compare;
 pub use finding::pcd_find;
 pub use reading::pcd_change_duty;
 pub use reading::pcd_fresh;

@@ -1,0 +1,5 @@
+pub mod FirstByte
+pub mod Held
+pub mod Listing
+pub mod Merging
+pub mod Promises
