@@ -33,19 +33,19 @@ unstamped : (k : ℕ) (l : List ℕ) → bytesOf (stampedWith k l) ≡ l
 unstamped k [] = refl
 unstamped k (b ∷ l) = ap (λ (r : List ℕ). b ∷ r) (unstamped k l)
 
+-- the joined bytes are the stamped ones, whoever is on duty first
+pub joined-stamped : (k : ℕ) (cs : List Call) → joined cs ≡ bytesOf (stamped k cs)
+unfolding joined
+joined-stamped k [] = refl
+joined-stamped k (c ∷ cs) = rw (map-append, unstamped k (takenBy c), joined-stamped (dutyAfter k c) cs)
+
 pays-length : (c : Bool) (new : List (List (List Word))) (a : List ℕ) → Pays c new a → length new ≡ one c
 pays-length true new a h = rw (h .1) refl
 pays-length false new a h = rw h refl
 
+-- ---- the last bytes of major frames
+
 module _ (vote : Vote) where
-  -- the joined bytes are the stamped ones, whoever is on duty first
-  pub joined-stamped : (k : ℕ) (cs : List Call) → joined vote cs ≡ bytesOf (stamped vote k cs)
-  unfolding joined
-  joined-stamped k [] = refl
-  joined-stamped k (c ∷ cs) = rw (map-append, unstamped k (takenBy vote c), joined-stamped (dutyAfter k c) cs)
-
-  -- ---- the last bytes of major frames
-
   abbrev found : List ℕ → ℕ
   found js = length (majorsIn vote js)
 
@@ -78,24 +78,24 @@ module _ (vote : Vote) where
 
   module _ (js : List ℕ) (c : TakeCall) (p : PaysAt vote js c) where
     -- no byte but the last that it takes completes a major frame
-    none-before : (i : ℕ) → i < length (taken vote c) → found (js ++ take i (taken vote c)) ≡ found js
+    none-before : (i : ℕ) → i < length (taken c) → found (js ++ take i (taken c)) ≡ found js
     unfolding taken
     none-before i h =
-        let few : i < answer vote c .taken = omega (arith, length-take (answer vote c .taken) (c .piece)) in
-        rw (take-take i (answer vote c .taken) (c .piece) (omega arith)) (ap length (p .before i few))
+        let few : i < answer c .taken = omega (arith, length-take (answer c .taken) (c .piece)) in
+        rw (take-take i (answer c .taken) (c .piece) (omega arith)) (ap length (p .before i few))
 
-    found-more : found (js ++ taken vote c) ≡ found js + one (answer vote c .complete)
+    found-more : found (js ++ taken c) ≡ found js + one (answer c .complete)
     found-more =
         ap length (p .after)
-        ∙ rw (length-append (majorsIn vote js) (p .new), pays-length (answer vote c .complete) (p .new) (answer vote c .area) (p .holds))
+        ∙ rw (length-append (majorsIn vote js) (p .new), pays-length (answer c .complete) (p .new) (answer c .area) (p .holds))
 
     frames-taken : (k d : ℕ) (ys : List (ℕ × ℕ))
-        → framesOn vote k js (stampedWith d (taken vote c) ++ ys) ≡ one (answer vote c .complete && eqb d k) + framesOn vote k (js ++ taken vote c) ys
+        → framesOn vote k js (stampedWith d (taken c) ++ ys) ≡ one (answer c .complete && eqb d k) + framesOn vote k (js ++ taken c) ys
     frames-taken k d ys =
         rw (
-          frames-append k js (stampedWith d (taken vote c)) ys,
-          unstamped d (taken vote c),
-          last-frame k d js (taken vote c) (answer vote c .complete) none-before found-more,
+          frames-append k js (stampedWith d (taken c)) ys,
+          unstamped d (taken c),
+          last-frame k d js (taken c) (answer c .complete) none-before found-more,
         )
 
   -- ---- a list of calls
@@ -107,27 +107,27 @@ module _ (vote : Vote) where
 
   -- after the bytes js the calls cs lead from the operators o to p
   pub record Booked (js : List ℕ) (cs : List Call) (o p : Operators) : Type 0 where
-    pub paid-are : (k : ℕ) → paidTo k p ≡ paidTo k o + framesOn vote k js (stamped vote (o .duty) cs)
+    pub paid-are : (k : ℕ) → paidTo k p ≡ paidTo k o + framesOn vote k js (stamped (o .duty) cs)
     pub duty-is : p .duty ≡ lastDuty (o .duty) cs
     pub eight : length (p .paid) ≡ 8
 
   booked-call : {cs : List Call} {p : Operators} (js : List ℕ) (c : TakeCall) (o : Operators) → Staffed o → PaysAt vote js c
-      → Booked (js ++ taken vote c) cs (booked (answer vote c .complete) o) p → Booked js (takes c ∷ cs) o p
+      → Booked (js ++ taken c) cs (booked (answer c .complete) o) p → Booked js (takes c ∷ cs) o p
   booked-call {cs} js c o s q r = record {
     paid-are = λ k.
-        let one-more = booked-to (answer vote c .complete) o k (omega (arith, s .eight, s .few-duty)) in
-        omega (arith, r .paid-are k, one-more, frames-taken js c q k (o .duty) (stamped vote (o .duty) cs));
+        let one-more = booked-to (answer c .complete) o k (omega (arith, s .eight, s .few-duty)) in
+        omega (arith, r .paid-are k, one-more, frames-taken js c q k (o .duty) (stamped (o .duty) cs));
     duty-is = r .duty-is;
     eight = r .eight;
   }
 
-  pub booked-over : {t t′ : Tally} {a a′ : List ℕ} {cs : List Call} (js : List ℕ) → Handed vote t a cs t′ a′ → Each vote js cs → Staffed (t .operators)
+  pub booked-over : {t t′ : Tally} {a a′ : List ℕ} {cs : List Call} (js : List ℕ) → Handed t a cs t′ a′ → Each vote js cs → Staffed (t .operators)
       → Booked js cs (t .operators) (t′ .operators)
   booked-over js done p s = record { paid-are = λ k. omega arith; duty-is = refl; eight = s .eight }
   booked-over js (refused (takes c) n e h) p s =
-      let r = booked-over (js ++ taken vote c) h (p .1) s in
+      let r = booked-over (js ++ taken c) h (p .1) s in
       record {
-        paid-are = λ k. rw (refused-taken vote c n e) (rw (refused-taken vote c n e, append-nil js) at (r .paid-are k));
+        paid-are = λ k. rw (refused-taken c n e) (rw (refused-taken c n e, append-nil js) at (r .paid-are k));
         duty-is = r .duty-is;
         eight = r .eight;
       }
@@ -136,9 +136,9 @@ module _ (vote : Vote) where
       record { paid-are = λ k. rw (e, eqb·suc-zero n) (r .paid-are k); duty-is = rw (e, eqb·suc-zero n) (r .duty-is); eight = r .eight }
   booked-over js (accepted c e h) p s =
       let o = c .tally .operators in
-      let q = accepted-operators vote c e in
+      let q = accepted-operators c e in
       booked-call js c o s (p .0)
-      (rw q at (booked-over (js ++ taken vote c) h (p .1) (rw q record { eight = booked-length (answer vote c .complete) o ∙ s .eight; few-duty = s .few-duty })))
+      (rw q at (booked-over (js ++ taken c) h (p .1) (rw q record { eight = booked-length (answer c .complete) o ∙ s .eight; few-duty = s .few-duty })))
   booked-over js (changed d e h) p s =
       let q : dutyAnswer d .operators ≡ onDuty (d .operator) (d .tally .operators) = ap (λ (t : Tally). t .operators) (duty-accepted d e) in
       let r = rw q at (booked-over js h p (rw q record { eight = s .eight; few-duty = duty-passed d e .is-operator })) in

@@ -191,6 +191,10 @@ pub never-split : NeverSplit bitVote
 unfolding bitVote
 never-split a b c e = let z : _≡_ {A = ℕ} 0 1 = cc in omega arith
 
+pub rule-never-split : {rule : ℕ} → rule ≡ 2 → NeverSplit (ruleVote rule)
+unfolding ruleVote
+rule-never-split e = rw e never-split
+
 -- so under such a vote no byte has that label
 module _ {vote : Vote} (never : NeverSplit vote) where
   abbrev splitIn : List (ℕ × Label) → ℕ

@@ -1,11 +1,13 @@
-// Whether a tally is in order (paper 01, "The tally and one call"). The tests are joined by `&` and `|`, which do not branch, in the order of
+// Whether a tally is in order (paper 01, "The tally and one call"; paper 02, requests 2 and 5). The tests are joined by `&` and `|`, which do not branch, in the order of
 // the definition.
 ghost use mathlib.Core.Path.{_≡_};
 ghost use Rattle.labelling.specs.Machine.{stateOf};
-ghost use Rattle.labelling.specs.Order.{weakBounded, groupsBounded, fewWeak, framingBounded, framingModes, runsBounded, bytesSum, wordsSum, framesSum, sumsHold, inOrder};
-ghost use Rattle.order.specs.Room.{GroupsRoom, FramingRoom, RunsRoom, StateRoom};
+ghost use Rattle.labelling.specs.Order.{weakBounded, groupsBounded, fewWeak, framingBounded, framingModes, runsBounded, bytesSum, wordsSum, framesSum, sumsHold};
+ghost use Rattle.labelling.specs.Order.{operatorsBounded, paidSum, inOrder};
+ghost use Rattle.order.specs.Room.{GroupsRoom, FramingRoom, RunsRoom, StateRoom, OperatorsRoom};
 use labelling::Framing;
 use labelling::Groups;
+use labelling::Operators;
 use labelling::Runs;
 use labelling::Tally;
 use labelling::Weak;
@@ -54,6 +56,22 @@ fn runs_bounded(r: Runs) -> bool
     (r.majors <= LIMIT) & (r.broken <= LIMIT) & (r.loose <= LIMIT) & (r.building <= 127)
 }
 
+// Each of the eight counts; on duty is one of the eight.
+fn operators_bounded(o: Operators) -> bool
+    ensures { λ r. ⌜ r ≡ operatorsBounded o ⌝ }
+{
+    let p = o.paid;
+    (p[0] <= LIMIT)
+        & (p[1] <= LIMIT)
+        & (p[2] <= LIMIT)
+        & (p[3] <= LIMIT)
+        & (p[4] <= LIMIT)
+        & (p[5] <= LIMIT)
+        & (p[6] <= LIMIT)
+        & (p[7] <= LIMIT)
+        & (o.duty <= 7)
+}
+
 fn bytes_sum(g: Groups) -> bool
     requires { ⌜ GroupsRoom g ⌝ }
     ensures { λ r. ⌜ r ≡ bytesSum g ⌝ }
@@ -83,6 +101,15 @@ fn frames_sum(good: u64, r: Runs) -> bool
     good == 128 * r.majors + r.broken + r.loose + r.building
 }
 
+// The eight add up to the major frames.
+fn paid_sum(majors: u64, o: Operators) -> bool
+    requires { ⌜ OperatorsRoom o ⌝ }
+    ensures { λ r. ⌜ r ≡ paidSum majors o ⌝ }
+{
+    let p = o.paid;
+    majors == p[0] + p[1] + p[2] + p[3] + p[4] + p[5] + p[6] + p[7]
+}
+
 // The sums, where the counts are known to be within the limit.
 fn sums(t: Tally) -> bool
     requires { ⌜ StateRoom (stateOf t) ⌝ }
@@ -95,7 +122,10 @@ fn sums(t: Tally) -> bool
 pub fn in_order(t: Tally) -> bool
     ensures { λ r. ⌜ r ≡ inOrder t ⌝ }
 {
-    let bounded = groups_bounded(t.groups) & framing_bounded(t.framing) & runs_bounded(t.runs);
+    let bounded = groups_bounded(t.groups)
+        & framing_bounded(t.framing)
+        & runs_bounded(t.runs)
+        & operators_bounded(t.operators);
     if !bounded {
         return false;
     }
@@ -103,4 +133,5 @@ pub fn in_order(t: Tally) -> bool
         & sums(t)
         & few_weak(t.groups)
         & (!t.framing.hunting | (t.runs.building == 0))
+        & paid_sum(t.runs.majors, t.operators)
 }

@@ -1,22 +1,44 @@
 -- `order::in_order` meets its contract: within the limits no sum runs over, and the tests are the definition's. Assumes nothing.
 use mathlib.Core.Path.{_≡_, _∙_}
-use mathlib.Core.Bool.{_&&_}
+use mathlib.Core.Bool.{true, _&&_}
 use borrow.Author.Tests.{not-true, not-false}
 use Rattle.labelling.specs.declared.Tally.{Tally}
 use Rattle.labelling.specs.Machine.{stateOf}
-use Rattle.order.proofs.Rooms.{bounded, bounded-room}
-use Rattle.order.proofs.Tested.{bounded-as, out-of-bounds, within-bounds}
+use Rattle.labelling.specs.Order.{operatorsBounded}
+use Rattle.order.specs.Room.{StateRoom, OperatorsRoom}
+use Rattle.order.proofs.Rooms.{bounded, bounded-room, operators-room}
+use Rattle.order.proofs.Tested.{both-hold, allBounded, bounded-as, out-of-bounds, within-bounds}
 use borrow.Author.Needs.{needs}
 use Rattle.order.proofs.in_order.Statement.{statement}
 use Rattle.order.proofs.in_order.Tie as tie
 
--- the bounds of the three layers are tested
-module _ (c : tie.After-runs-bounded) where
+-- the bounds of the three layers and of the operators are tested
+module _ (c : tie.After-operators-bounded) where
   abbrev t : Tally
-  t = c .before .before .before .args .t
+  t = let runs = c .before in runs .before .before .before .args .t
 
-  bounds-are : bounded (stateOf t) ≡ (c .before .before .groups-bounded .result && c .before .framing-bounded .result && c .runs-bounded .result)
-  bounds-are = bounded-as t (c .before .before .groups-bounded .ensures) (c .before .framing-bounded .ensures) (c .runs-bounded .ensures)
+  bounds-are : allBounded t
+      ≡ (c .before .before .before .groups-bounded .result && c .before .before .framing-bounded .result && c .before .runs-bounded .result
+      && c .operators-bounded .result)
+  bounds-are =
+      let runs = c .before in
+      let framing = runs .before in
+      bounded-as t (framing .before .groups-bounded .ensures) (framing .framing-bounded .ensures) (runs .runs-bounded .ensures)
+      (c .operators-bounded .ensures)
+
+-- and hold
+module _ (c : tie.Else1) where
+  held : allBounded (t (c .before)) ≡ true
+  held = bounds-are (c .before) ∙ not-false _ (c .if1 .left)
+
+  abbrev both : (bounded (stateOf (t (c .before))) ≡ true) × (operatorsBounded (t (c .before) .operators) ≡ true)
+  both = both-hold (bounded (stateOf (t (c .before)))) (operatorsBounded (t (c .before) .operators)) held
+
+  in-layers : StateRoom (stateOf (t (c .before)))
+  in-layers = bounded-room (stateOf (t (c .before))) (both .0)
+
+  in-operators : OperatorsRoom (t (c .before) .operators)
+  in-operators = operators-room (t (c .before) .operators) (both .1)
 
 groups-bounded-requires : tie.Need-groups-bounded-requires
 groups-bounded-requires c κs = search needs
@@ -27,6 +49,9 @@ framing-bounded-requires c κs = search needs
 runs-bounded-requires : tie.Need-runs-bounded-requires
 runs-bounded-requires c κs = search needs
 
+operators-bounded-requires : tie.Need-operators-bounded-requires
+operators-bounded-requires c κs = search needs
+
 returns : tie.Need-returns
 returns c = out-of-bounds (t (c .before)) (bounds-are (c .before) ∙ not-true _ (c .if1 .taken))
 
@@ -34,23 +59,24 @@ framing-modes-requires : tie.Need-framing-modes-requires
 framing-modes-requires c κs = search needs
 
 sums-requires : tie.Need-sums-requires
-sums-requires c κs =
-    let tested = c .before .before in
-    bounded-room (stateOf (t tested)) (bounds-are tested ∙ not-false _ (c .before .if1 .left))
+sums-requires c κs = in-layers (c .before)
 
 few-weak-requires : tie.Need-few-weak-requires
-few-weak-requires c κs =
-    let tested = c .before .before .before in
-    bounded-room (stateOf (t tested)) (bounds-are tested ∙ not-false _ (c .before .before .if1 .left)) .in-groups
+few-weak-requires c κs = in-layers (c .before .before) .in-groups
+
+paid-sum-requires : tie.Need-paid-sum-requires
+paid-sum-requires c κs =
+    let counted = c .before .before in
+    let modes = counted .before .before in
+    in-operators (modes .before)
 
 returns-2 : tie.Need-returns-2
 returns-2 c =
-    let counted = c .before .before in
+    let counted = c .before .before .before in
     let summed = counted .before in
-    let inside = summed .before .before in
-    let tested = inside .before in
-    within-bounds (t tested) (bounds-are tested ∙ not-false _ (inside .if1 .left)) (summed .before .framing-modes .ensures) (summed .sums .ensures)
-    (counted .few-weak .ensures)
+    let modes = summed .before in
+    within-bounds (t (modes .before .before)) (held (modes .before)) (modes .framing-modes .ensures) (summed .sums .ensures) (counted .few-weak .ensures)
+    (c .paid-sum .ensures)
 
 pub in-order-spec : {M : Type 1} → statement M
 in-order-spec =
@@ -59,8 +85,10 @@ in-order-spec =
     groups-bounded-requires
     framing-bounded-requires
     runs-bounded-requires
+    operators-bounded-requires
     returns
     framing-modes-requires
     sums-requires
     few-weak-requires
+    paid-sum-requires
     returns-2)
