@@ -23,13 +23,15 @@ use Rattle.labelling.specs.Order.{inOrder}
 use Rattle.labelling.specs.Calls.{TakeCall, takeRefusal, Progress, andOne, answerWith, feed, answer, taken, pays}
 use Rattle.labelling.specs.Calls.{DutyCall, dutyRefusal, dutyAnswer, Call, takes, changes, refusalOf, dutyAfter, lastDuty, takenBy, paidBy}
 use Rattle.labelling.specs.Calls.{joined, paid, stamped, Handed, done, refused, accepted, changed}
-use Rattle.labelling.specs.BothRules.{SideBySide, ends, refused-here, refused-there, both-take, both-change, SameCuts, SameShifts, underRule, SameAnswers, Alike}
+use Rattle.labelling.specs.SideBySide.{ends, refused-here, refused-there, both-take, both-change, SameCuts}
+use Rattle.labelling.specs.BothRules.{SameShifts, underRule, SameAnswers, Alike}
 use Rattle.labelling.specs.Once.{majorsIn, Once}
 use Rattle.labelling.proofs.Votes.{majority, same-word}
 use Rattle.labelling.proofs.Ordered.{split-grows, TallyOrdered, tally-ordered, tally-in-order}
 use Rattle.labelling.proofs.Feeding.{feed-complete, feed-more, feed-taken, feed-grows}
 use Rattle.labelling.proofs.CallLaws.{Passed, passed, no-refusal, refused-answer, refused-taken, accepted-under, accepted-extent, accepted-rule}
 use Rattle.labelling.proofs.CallLaws.{duty-passed, duty-no-refusal, duty-accepted, duty-rule}
+use Rattle.labelling.proofs.SideBySide.{refused-takes, refused-stays, joined-refused, taken-length, handed-refused, took, duty-changed}
 use Rattle.labelling.proofs.Shifts.{joined-stamped}
 use Rattle.labelling.proofs.Demand.{once}
 
@@ -151,14 +153,6 @@ module _ (c : TakeCall) (e : takeRefusal c ≡ 0) (one-rule : c .tally .rule ≡
 
 -- ---- a list of calls under rule 1, and its calls once more under rule 2
 
-refused-takes : (c : Call) (n : ℕ) → refusalOf c ≡ suc n → takenBy c ≡ []
-refused-takes (takes c) n e = refused-taken c n e
-refused-takes (changes d) n e = refl
-
-refused-stays : (k : ℕ) (c : Call) (n : ℕ) → refusalOf c ≡ suc n → dutyAfter k c ≡ k
-refused-stays k (takes c) n e = refl
-refused-stays k (changes d) n e = rw (e, eqb·suc-zero n)
-
 refused-pays : (c : Call) (n : ℕ) → refusalOf c ≡ suc n → paidBy c ≡ []
 unfolding pays
 refused-pays (takes c) n e = rw (refused-answer c n e)
@@ -229,21 +223,12 @@ parts-same xs ys xs′ ys′ l e = (
   sym (drop-append-seam xs ys) ∙ rw (l, e) (drop-append-seam xs′ ys′),
 )
 
-taken-length : (c : TakeCall) → takeRefusal c ≡ 0 → length (taken c) ≡ answer c .taken
-unfolding taken
-taken-length c e = length-take-le (answer c .taken) (c .piece) (accepted-extent c e .within)
-
 -- the bytes of two calls that take as many, and of the rest
 taken-same : (cs ds : List Call) (c d : TakeCall) → takeRefusal c ≡ 0 → takeRefusal d ≡ 0 → answer d .taken ≡ answer c .taken
     → joined (takes d ∷ ds) ≡ joined (takes c ∷ cs) → (taken d ≡ taken c) × (joined ds ≡ joined cs)
 unfolding joined
 taken-same cs ds c d e f same j =
     parts-same (taken d) (joined ds) (taken c) (joined cs) (taken-length d f ∙ same ∙ sym (taken-length c e)) j
-
--- a refused call is not in the joined bytes
-joined-refused : (c : Call) (cs : List Call) (n : ℕ) → refusalOf c ≡ suc n → joined (c ∷ cs) ≡ joined cs
-unfolding joined
-joined-refused c cs n e = rw (refused-takes c n e)
 
 cuts-stamped : (k : ℕ) {cs ds : List Call} → SameCuts cs ds → joined ds ≡ joined cs → (stamped k ds ≡ stamped k cs) × (lastDuty k ds ≡ lastDuty k cs)
 unfolding joined
@@ -300,30 +285,6 @@ beside-answers c d b = accepted-under d (b .there) rule-two ∙ rw (runs-same, b
     runs-same =
         sym (run-taken d (b .there) 2 rule-two)
         ∙ rw (b .taken-equal, b .tally-same, b .area-same) (sym (rules-agree s (c .area) (taken c) unsplit)) ∙ first
-
--- what a list that begins with a call has done
-handed-refused : {t t′ : Tally} {a a′ : List ℕ} {cs : List Call} (c : Call) (n : ℕ) → refusalOf c ≡ suc n → Handed t a (c ∷ cs) t′ a′ → Handed t a cs t′ a′
-handed-refused c n q (refused _ m e h) = h
-handed-refused (takes c) n q (accepted _ e h) = absurd (omega arith)
-handed-refused (changes d) n q (changed _ e h) = absurd (omega arith)
-
-record Took (c : TakeCall) (cs : List Call) (t : Tally) (a : List ℕ) (t′ : Tally) (a′ : List ℕ) : Type 0 where
-  tally-is : t ≡ c .tally
-  area-is : a ≡ c .area
-  rest : Handed (answer c .tally) (answer c .area) cs t′ a′
-
-took : {t t′ : Tally} {a a′ : List ℕ} {cs : List Call} (c : TakeCall) → takeRefusal c ≡ 0 → Handed t a (takes c ∷ cs) t′ a′ → Took c cs t a t′ a′
-took c e (refused _ n q h) = absurd (omega arith)
-took c e (accepted _ f h) = record { tally-is = refl; area-is = refl; rest = h }
-
-record DutyChanged (d : DutyCall) (cs : List Call) (t : Tally) (a : List ℕ) (t′ : Tally) (a′ : List ℕ) : Type 0 where
-  tally-is : t ≡ d .tally
-  rest : Handed (dutyAnswer d) a cs t′ a′
-
-duty-changed : {t t′ : Tally} {a a′ : List ℕ} {cs : List Call} (d : DutyCall) → dutyRefusal d ≡ 0 → Handed t a (changes d ∷ cs) t′ a′
-    → DutyChanged d cs t a t′ a′
-duty-changed d e (refused _ n q h) = absurd (omega arith)
-duty-changed d e (changed _ f h) = record { tally-is = refl; rest = h }
 
 each-alike : {cs ds : List Call} → SameCuts cs ds → {t t′ u u′ : Tally} {a a′ b b′ : List ℕ} → Handed t a cs t′ a′ → Handed u b ds u′ b′ → t .rule ≡ 1
     → u ≡ withRule 2 t → b ≡ a → joined ds ≡ joined cs → t′ .groups .split ≡ 0 → SameAnswers cs ds

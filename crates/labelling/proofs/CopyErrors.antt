@@ -158,7 +158,7 @@ module _ {vote : Vote} (m : Majority vote) where
   copies-vote (second-copy {x} y) = m .outer-two x y ∙ sym (m .first-two x x)
   copies-vote (third-copy {x} y) = m .first-two x y ∙ sym (m .first-two x x)
 
-  pub words-stay : {bs cs : List ℕ} → CopyErrors bs cs → SameWords vote vote bs cs
+  pub words-stay : {bs cs : List ℕ} → CopyErrors bs cs → SameWords vote bs cs
   words-stay at-end = both-end
   words-stay (outer-byte b h s) = both-outer b h (words-stay s)
   words-stay (closed-group e s) = both-close (copies-vote e) (words-stay s)

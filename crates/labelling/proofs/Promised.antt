@@ -7,7 +7,10 @@ use Rattle.labelling.specs.Machine.{fresh}
 use Rattle.labelling.specs.Order.{isRule}
 use Rattle.labelling.specs.Once.{freshRefusal, ruleGiven, FreshPromise}
 use Rattle.labelling.proofs.Demand.{once, reaches}
+use Rattle.labelling.proofs.SideBySide.{cuts-duties}
 use Rattle.labelling.proofs.BothRules.{read-alike, cuts-suffice}
+use Rattle.labelling.proofs.CopyErrors.{reach}
+use Rattle.labelling.proofs.Unharmed.{unharmed}
 
 -- ---- the refusal
 
@@ -36,4 +39,6 @@ fresh-promise rule n r e f = rw (e, f) record {
   once = once (ruleGiven rule) (given-rule rule);
   reaches = reaches (ruleGiven rule) (given-rule rule);
   alike = record { read-alike = read-alike; cuts-suffice = cuts-suffice };
+  copy-errors =
+      record { unharmed = unharmed (ruleGiven rule) (given-rule rule); cuts-suffice = cuts-duties; not-empty = reach };
 }

@@ -1,5 +1,5 @@
--- Two streams whose closed groups give the same words, each under its own vote, and which are otherwise the same: their words, how many bytes have
--- each label, their closed and their major frames are the same, and so are those of their first n bytes. Assumes nothing.
+-- Two streams whose closed groups give the same words, and which are otherwise the same: their words, how many bytes have each label, their closed
+-- and their major frames are the same, and so are those of their first n bytes. Assumes nothing.
 use mathlib.Core.Path.{_≡_, refl, sym, ap, _∙_}
 use mathlib.Core.List.{List, [], _∷_}
 use Prim.Native.Nat.{ℕ, zero, suc, _*_, _≤_}
@@ -43,11 +43,11 @@ open-pair l m h e r = rw (open-groups l h, open-groups m (omega arith)) (pair r 
 
 -- ---- streams with the same words
 
-module _ (v v′ : Vote) where
+module _ (vote : Vote) where
   pub data SameWords : List ℕ → List ℕ → Type 0 where
     both-end : SameWords [] []
     both-outer : {bs cs : List ℕ} (b : ℕ) → (b ≡ SYNC → ⊥) → SameWords bs cs → SameWords (b ∷ bs) (b ∷ cs)
-    both-close : {a b c a′ b′ c′ : ℕ} {bs cs : List ℕ} → v′ a′ b′ c′ ≡ v a b c → SameWords bs cs
+    both-close : {a b c a′ b′ c′ : ℕ} {bs cs : List ℕ} → vote a′ b′ c′ ≡ vote a b c → SameWords bs cs
         → SameWords (SYNC ∷ a ∷ b ∷ c ∷ bs) (SYNC ∷ a′ ∷ b′ ∷ c′ ∷ cs)
     both-open : {l m : List ℕ} → length l ≤ 2 → length m ≡ length l → SameWords (SYNC ∷ l) (SYNC ∷ m)
 
@@ -72,8 +72,8 @@ module _ (v v′ : Vote) where
   -- ---- group by group
 
   record SameGroup (g h : Group) : Type 0 where
-    word-same : wordOf v′ h ≡ wordOf v g
-    label-same : labelOf v′ h ≡ labelOf v g
+    word-same : wordOf vote h ≡ wordOf vote g
+    label-same : labelOf vote h ≡ labelOf vote g
     size-same : length (bytesOf h) ≡ length (bytesOf g)
 
   same-groups : {bs cs : List ℕ} → SameWords bs cs → Paired SameGroup (groups bs) (groups cs)
@@ -84,18 +84,18 @@ module _ (v v′ : Vote) where
   same-groups (both-close {bs} {cs} e s) = closed-pair bs cs (same-groups s) record { word-same = rw e; label-same = rw e; size-same = refl }
   same-groups (both-open {l} {m} h e) = open-pair l m h e record { word-same = refl; label-same = refl; size-same = ap suc e }
 
-  pub same-words : {bs cs : List ℕ} → SameWords bs cs → words v′ cs ≡ words v bs
+  pub same-words : {bs cs : List ℕ} → SameWords bs cs → words vote cs ≡ words vote bs
   unfolding words
   same-words s = sym (concatMap-paired (λ g h r. sym (r .word-same)) (same-groups s))
 
-  pub same-labelled : {bs cs : List ℕ} (k : Label) → SameWords bs cs → labelled v′ k cs ≡ labelled v k bs
+  pub same-labelled : {bs cs : List ℕ} (k : Label) → SameWords bs cs → labelled vote k cs ≡ labelled vote k bs
   same-labelled {bs} {cs} k s =
-      labelled-is v′ k cs ∙ sym (sumBy-paired (λ g h r. rw (r .label-same, r .size-same)) (same-groups s)) ∙ sym (labelled-is v k bs)
+      labelled-is vote k cs ∙ sym (sumBy-paired (λ g h r. rw (r .label-same, r .size-same)) (same-groups s)) ∙ sym (labelled-is vote k bs)
 
-  pub same-frames : {bs cs : List ℕ} → SameWords bs cs → framesIn v′ cs ≡ framesIn v bs
+  pub same-frames : {bs cs : List ℕ} → SameWords bs cs → framesIn vote cs ≡ framesIn vote bs
   unfolding framesIn
   same-frames s = rw (same-words s)
 
-  pub same-majors : {bs cs : List ℕ} → SameWords bs cs → majorsIn v′ cs ≡ majorsIn v bs
+  pub same-majors : {bs cs : List ℕ} → SameWords bs cs → majorsIn vote cs ≡ majorsIn vote bs
   unfolding majorsIn
   same-majors s = rw (same-frames s)

@@ -1,13 +1,19 @@
--- Copy errors in a stream (02, request 10: scratches): one stream before and after at most one copy changed in any of its closed groups of three
--- equal copies, and which copies have truly changed. Definitions only.
+-- Copy errors (02, request 10: scratches): a stream before and after at most one copy changed in any of its closed groups of three equal copies, which
+-- copies have truly changed, and what both streams leave. Definitions only.
 use mathlib.Core.Path.{_≡_}
 use mathlib.Core.Bool.{not}
 use mathlib.Core.List.{List, [], _∷_, _++_}
 use Prim.Native.Nat.{ℕ, _+_, _≤_}
 use lib.Dec.{eqb}
 use lib.ListN.{length, getD}
+use Rattle.base.specs.Format.{majorFrame}
 use Rattle.base.specs.Lists.{concatMap, one}
+use Rattle.labelling.specs.declared.Tally.{Tally}
+use Rattle.labelling.specs.declared.Weak.{Weak}
 use Rattle.labelling.specs.Words.{SYNC, Group, fill, stray, closed, opened, groups, bytesOf}
+use Rattle.labelling.specs.Calls.{TakeCall, answer, dutyAnswer, Call, joined, paid, Handed}
+use Rattle.labelling.specs.SideBySide.{SideBySide, SameCuts, SameDuties}
+use Rattle.labelling.specs.Rest.{latest}
 
 -- ---- the change
 
@@ -66,3 +72,66 @@ pub record CopyErrorsReach : Type 0 where
   pub itself : (bs : List ℕ) → CopyErrors bs bs
   pub each-copy : (bs : List ℕ) (before after : List Group) (x y : ℕ) → groups bs ≡ before ++ closed x x x ∷ after
       → (withGroup before (closed x x x) after ≡ bs) × EachCopy before after x y
+
+-- ---- what they leave
+
+-- the tally t with other weak counts and other kept copies
+abbrev pub withCopies : Weak → ℕ → ℕ → Tally → Tally
+withCopies w first second t = record {
+  groups = record {
+    bytes = t .groups .bytes;
+    fill = t .groups .fill;
+    stray = t .groups .stray;
+    voted = t .groups .voted;
+    split = t .groups .split;
+    weak = w;
+    «open» = t .groups .«open»;
+    first = first;
+    second = second;
+  };
+  framing = t .framing;
+  runs = t .runs;
+  operators = t .operators;
+  rule = t .rule;
+  frame = t .frame;
+}
+
+-- u is t but for the weak counts and the kept copies: every other count, each operator's, who is on duty and the rule, whether it hunts, the match, the
+-- frame being filled and its erasure mark are the same
+abbrev pub SameButCopies : Tally → Tally → Type 0
+SameButCopies t u = u ≡ withCopies (u .groups .weak) (u .groups .first) (u .groups .second) t
+
+-- the weak counts w, each risen by the copies truly changed at its copy
+abbrev pub risen : List ℕ → List ℕ → Weak → Weak
+risen bs cs w = record { first = w .first + changedAt 1 bs cs; second = w .second + changedAt 2 bs cs; third = w .third + changedAt 3 bs cs }
+
+-- the calls c and d take as many bytes, both complete a major frame or neither does, and they leave the same area: so one pays what the other pays
+pub record SameAnswer (c d : TakeCall) : Type 0 where
+  pub taken-same : answer d .taken ≡ answer c .taken
+  pub complete-same : answer d .complete ≡ answer c .complete
+  pub area-same : answer d .area ≡ answer c .area
+  pub tally-same : SameButCopies (answer c .tally) (answer d .tally)
+
+abbrev pub SameAnswers : List Call → List Call → Type 0
+SameAnswers cs ds = SideBySide SameAnswer (λ c d. SameButCopies (dutyAnswer c) (dutyAnswer d)) cs ds
+
+-- the calls cs over a stream leave t and a, and ds over the stream with copy errors leave u and b
+pub record Unharmed (cs ds : List Call) (t u : Tally) (a b : List ℕ) : Type 0 where
+  pub tally-same : SameButCopies t u
+  pub weak-is : u .groups .weak ≡ risen (joined cs) (joined ds) (t .groups .weak)
+  -- a kept copy can differ only where that copy of the last closed group has changed
+  pub first-same : latest 0 (copiesAt 1 (joined ds)) ≡ latest 0 (copiesAt 1 (joined cs)) → u .groups .first ≡ t .groups .first
+  pub second-same : latest 0 (copiesAt 2 (joined ds)) ≡ latest 0 (copiesAt 2 (joined cs)) → u .groups .second ≡ t .groups .second
+  pub area-same : b ≡ a
+  pub paid-same : paid ds ≡ paid cs
+  -- and so it is call by call, where the cuts are the same
+  pub each-call : SameCuts cs ds → SameAnswers cs ds
+
+-- ---- the promise
+
+-- from the tally r, with the same area, cuts and shifts before and after: of the cuts only the last field of `Unharmed` speaks
+pub record CopyErrorsPromise (r : Tally) : Type 0 where
+  pub unharmed : (a₀ : List ℕ) → length a₀ ≡ majorFrame → (cs ds : List Call) (t u : Tally) (a b : List ℕ) → Handed r a₀ cs t a → Handed r a₀ ds u b
+      → SameDuties cs ds → CopyErrors (joined cs) (joined ds) → Unharmed cs ds t u a b
+  pub cuts-suffice : (cs ds : List Call) → SameCuts cs ds → SameDuties cs ds
+  pub not-empty : CopyErrorsReach
