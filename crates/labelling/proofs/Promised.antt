@@ -10,7 +10,7 @@ use Rattle.labelling.proofs.Demand.{once, reaches}
 use Rattle.labelling.proofs.SideBySide.{cuts-duties}
 use Rattle.labelling.proofs.BothRules.{read-alike, cuts-suffice}
 use Rattle.labelling.proofs.CopyErrors.{reach}
-use Rattle.labelling.proofs.Unharmed.{unharmed}
+use Rattle.labelling.proofs.Unharmed.{unharmed, stops-same}
 
 -- ---- the refusal
 
@@ -39,6 +39,10 @@ fresh-promise rule n r e f = rw (e, f) record {
   once = once (ruleGiven rule) (given-rule rule);
   reaches = reaches (ruleGiven rule) (given-rule rule);
   alike = record { read-alike = read-alike; cuts-suffice = cuts-suffice };
-  copy-errors =
-      record { unharmed = unharmed (ruleGiven rule) (given-rule rule); cuts-suffice = cuts-duties; not-empty = reach };
+  copy-errors = record {
+    unharmed = unharmed (ruleGiven rule) (given-rule rule);
+    cuts-suffice = cuts-duties;
+    stops-same = stops-same (ruleGiven rule) (given-rule rule);
+    not-empty = reach;
+  };
 }

@@ -1,6 +1,6 @@
 -- Two lists of calls side by side: what each call of a list is handed, and that the same cuts give the same duties. Assumes nothing.
 use mathlib.Core.Path.{_≡_, refl, sym, ap, ap₂, _∙_}
-use mathlib.Core.List.{List, [], _∷_, _++_, map, map-append}
+use mathlib.Core.List.{List, [], _∷_, _++_, map, append-assoc, map-append}
 use Prim.Native.Nat.{ℕ, zero, suc, _+_, _≤_}
 use native.Mathlib.Omega.{arith}
 use lib.Dec.{eqb, eqb·suc-zero}
@@ -59,15 +59,6 @@ duty-changed d e (changed _ f h) = record { tally-is = refl; rest = h }
 
 -- ---- the same cuts
 
-module _ {Takes : TakeCall → TakeCall → Type 0} {Changes : DutyCall → DutyCall → Type 0} where
-  pub beside-append : {cs ds cs′ ds′ : List Call} → SideBySide Takes Changes cs ds → SideBySide Takes Changes cs′ ds′
-      → SideBySide Takes Changes (cs ++ cs′) (ds ++ ds′)
-  beside-append ends z = z
-  beside-append (refused-here c n e s) z = refused-here c n e (beside-append s z)
-  beside-append (refused-there d n e s) z = refused-there d n e (beside-append s z)
-  beside-append (both-take c d e f r s) z = both-take c d e f r (beside-append s z)
-  beside-append (both-change c d e f r s) z = both-change c d e f r (beside-append s z)
-
 abbrev dutiesOf : List (ℕ × ℕ) → List ℕ
 dutiesOf xs = map (λ x. x .1) xs
 
@@ -90,3 +81,21 @@ duties-from k (both-change c d e f same s) = rw (e, f, same) (duties-from (c .op
 
 pub cuts-duties : (cs ds : List Call) → SameCuts cs ds → SameDuties cs ds
 cuts-duties cs ds s = let r = duties-from 0 s in record { as-taken = r .0; at-the-end = r .1 }
+
+-- ---- one list after another
+
+stamped-append : (k : ℕ) (cs ds : List Call) → stamped k (cs ++ ds) ≡ stamped k cs ++ stamped (lastDuty k cs) ds
+stamped-append k [] ds = refl
+stamped-append k (c ∷ cs) ds = rw (stamped-append (dutyAfter k c) cs ds) (sym (append-assoc (map (λ b. (b, k)) (takenBy c)) _ _))
+
+last-append : (k : ℕ) (cs ds : List Call) → lastDuty k (cs ++ ds) ≡ lastDuty (lastDuty k cs) ds
+last-append k [] ds = refl
+last-append k (c ∷ cs) ds = last-append (dutyAfter k c) cs ds
+
+pub duties-append : {cs ds cs′ ds′ : List Call} → SameDuties cs ds → SameCuts cs′ ds′ → SameDuties (cs ++ cs′) (ds ++ ds′)
+duties-append {cs} {ds} {cs′} {ds′} d s =
+    let rest = duties-from (lastDuty 0 cs) s in
+    record {
+      as-taken = rw (stamped-append 0 cs cs′, stamped-append 0 ds ds′, d .at-the-end) (simp map-append (rw (d .as-taken, rest .0)));
+      at-the-end = rw (last-append 0 cs cs′, last-append 0 ds ds′, d .at-the-end) (rest .1);
+    }

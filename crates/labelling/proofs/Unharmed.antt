@@ -1,171 +1,34 @@
--- Copy errors cost no frame (02, request 10): it follows from demand 3 alone. What a tally holds above its groups is the words', and who is paid is
--- decided by where the major frames end; the words of a stream and of its first n bytes stay, so that is the same for both lists of calls, and at each
--- call. Assumes nothing.
-use mathlib.Core.Path.{_≡_, refl, sym, ap, ap₂, _∙_}
-use mathlib.Core.Bool.{Bool, true, false, cond, _&&_}
+-- Copy errors cost no frame (02, request 10). The words of a stream, and of its first n bytes, stay: so two lists of calls over them leave the same but for
+-- the copies, at each call as at the end, and a call stops at the same byte. Assumes nothing.
+use mathlib.Core.Path.{_≡_, refl, sym, ap, _∙_}
+use mathlib.Core.Bool.{Bool, true, false, cond}
 use mathlib.Core.List.{List, [], _∷_, _++_, map, append-assoc, append-nil}
-use Prim.Native.Nat.{ℕ, zero, suc, _+_, _*_, _≤_, _<_}
+use Prim.Native.Nat.{ℕ, _+_, _^_, _≤_, _<_}
 use native.Mathlib.Omega.{arith}
-use lib.Dec.{eqb, ltb}
-use lib.ListN.{length, take, replicate, length-append, length-map}
-use lib.Seq.{ext-getD, take-append-seam}
-use Rattle.base.specs.Format.{minorFrame}
-use Rattle.base.specs.Lists.{concatMap, sumBy, one}
+use lib.Dec.{ltb}
+use lib.ListN.{length, take, drop, length-append, length-take, length-map, take-append-drop}
+use lib.Seq.{take-append-seam, take-append-add}
+use borrow.Author.Tests.{ltb-true, ltb-false}
+use Rattle.base.specs.Lists.{concatMap, one}
 use Rattle.base.proofs.Lists.{concatMap-append}
-use Rattle.labelling.specs.declared.FrameClass.the-variants.{Good, Damaged, Unsynced}
-use Rattle.labelling.specs.declared.Framing.{Framing}
-use Rattle.labelling.specs.declared.Operators.{Operators}
-use Rattle.labelling.specs.declared.Runs.{Runs}
 use Rattle.labelling.specs.declared.Tally.{Tally}
-use Rattle.labelling.specs.declared.Word.{Word}
-use Rattle.labelling.specs.Words.{Vote, words, as-fill, as-stray, as-voted, as-split, as-open}
+use Rattle.labelling.specs.Words.{Vote}
 use Rattle.labelling.specs.Votes.{ruleVote}
-use Rattle.labelling.specs.MinorFrames.{anyErased, pieces, frames, inHunted, inPart, classed}
-use Rattle.labelling.specs.MajorFrames.{values, runs, majors, inBroken, inLoose, inBuilding, stored, putFrames}
-use Rattle.labelling.specs.Operators.{paidTo}
 use Rattle.labelling.specs.Machine.{fresh}
 use Rattle.labelling.specs.Order.{isRule}
-use Rattle.labelling.specs.Calls.{TakeCall, answer, pays, dutyAnswer, Call, takes, changes, takenBy, paidBy, joined, paid, stamped}
+use Rattle.labelling.specs.Calls.{TakeCall, takeRefusal, answer, taken, pays, dutyAnswer, Call, takes, changes, takenBy, paidBy, joined, paid, stamped}
 use Rattle.labelling.specs.Calls.{Handed, done, accepted, changed}
-use Rattle.labelling.specs.SideBySide.{SideBySide, ends, refused-here, refused-there, both-take, both-change, SameCuts, SameDuties}
-use Rattle.labelling.specs.Rest.{latest, huntsAfter, matchIn, reached, over}
-use Rattle.labelling.specs.Once.{framesIn, majorsIn, completesAt, framesOn, Once}
-use Rattle.labelling.specs.CopyErrors.{CopyErrors, changedAt, SameButCopies, SameAnswers, Unharmed}
+use Rattle.labelling.specs.SideBySide.{ends, refused-here, refused-there, both-take, both-change, SameCuts, SameDuties}
+use Rattle.labelling.specs.CopyErrors.{CopyErrors, changedAt, SameButCopies, SameAnswer, SameAnswers, Unharmed}
+use Rattle.labelling.specs.Once.{majorsIn, Pays, PaysAt, Each, Once}
 use Rattle.labelling.proofs.Votes.{majority}
-use Rattle.labelling.proofs.SideBySide.{joined-refused, handed-refused, took, duty-changed, beside-append, cuts-duties}
+use Rattle.labelling.proofs.SideBySide.{joined-refused, handed-refused, took, duty-changed, duties-append}
 use Rattle.labelling.proofs.Shifts.{joined-stamped}
 use Rattle.labelling.proofs.Reaching.{handed-append}
 use Rattle.labelling.proofs.Demand.{once}
-use Rattle.labelling.proofs.SameWords.{SameWords, same-front, same-length, same-words, same-labelled, same-frames, same-majors}
-use Rattle.labelling.proofs.CopyErrors.{words-stay, weak-rise, first-kept, second-kept, reach}
-
--- ---- what the words decide
-
-abbrev framingOf : List Word → Framing
-framingOf ws = record {
-  hunted = sumBy inHunted (pieces ws);
-  good = classed Good (frames ws);
-  damaged = classed Damaged (frames ws);
-  unsynced = classed Unsynced (frames ws);
-  placed = sumBy inPart (pieces ws);
-  hunting = latest true (map huntsAfter (pieces ws));
-  matched = latest 0 (map matchIn (pieces ws));
-  erasure = anyErased (reached ws);
-}
-
-abbrev runsOf : List (List Word) → Runs
-runsOf fs = record {
-  majors = length (majors fs);
-  broken = sumBy inBroken (runs fs);
-  loose = sumBy inLoose (runs fs);
-  building = sumBy inBuilding (runs fs);
-}
-
-abbrev frameOf : List Word → List ℕ
-frameOf ws = over (values (reached ws)) (latest (replicate minorFrame 0) (map values (frames ws)))
-
-module _ {rule : ℕ} {a₀ : List ℕ} {cs : List Call} {t : Tally} {a : List ℕ} (o : Once rule a₀ cs t a) where
-  abbrev wordsRead : List Word
-  wordsRead = words (ruleVote rule) (joined cs)
-
-  framing-is : t .framing ≡ framingOf wordsRead
-  unfolding framesIn
-  framing-is =
-      let c = o .counts in
-      let r = o .rest in
-      rw (
-        ← c .hunted-is,
-        ← c .good-is,
-        ← c .damaged-is,
-        ← c .unsynced-is,
-        ← c .placed-is,
-        ← r .hunting-is,
-        ← r .matched-is,
-        ← r .erasure-is,
-      )
-
-  runs-are : t .runs ≡ runsOf (frames wordsRead)
-  unfolding framesIn majorsIn
-  runs-are = let c = o .counts in rw (← c .majors-is, ← c .broken-is, ← c .loose-is, ← c .building-is)
-
--- ---- whose duty the major frames are complete on
-
--- streams whose first n bytes have as many major frames each, taken on the same duties, have as many complete on each duty
-frames-agree : (vote : Vote) (k : ℕ) (js js′ : List ℕ) (xs ys : List (ℕ × ℕ)) → map (λ x. x .1) ys ≡ map (λ x. x .1) xs
-    → ((n : ℕ) → length (majorsIn vote (js′ ++ take n (map (λ x. x .0) ys))) ≡ length (majorsIn vote (js ++ take n (map (λ x. x .0) xs))))
-    → framesOn vote k js′ ys ≡ framesOn vote k js xs
-unfolding completesAt
-frames-agree vote k js js′ [] [] d h = refl
-frames-agree vote k js js′ [] (y ∷ ys) d h = absurd (let z : _≡_ {A = ℕ} 0 1 = cc in omega arith)
-frames-agree vote k js js′ (x ∷ xs) [] d h = absurd (let z : _≡_ {A = ℕ} 0 1 = cc in omega arith)
-frames-agree vote k js js′ (x ∷ xs) (y ∷ ys) d h =
-    let duty : y .1 ≡ x .1 = cc in
-    let rest : map (λ (x : ℕ × ℕ). x .1) ys ≡ map (λ (x : ℕ × ℕ). x .1) xs = cc in
-    let before = rw (append-nil js, append-nil js′) at (h 0) in
-    let more = frames-agree vote k (js ++ x .0 ∷ []) (js′ ++ y .0 ∷ []) xs ys rest (λ n. rw (append-assoc js′, append-assoc js) (h (suc n))) in
-    rw (before, h 1, duty, more)
-
--- ---- two lists of calls over streams with the same words
-
-module _ {rule : ℕ} {a₀ : List ℕ} {cs ds : List Call} {t u : Tally} {a b : List ℕ} (o : Once rule a₀ cs t a) (o′ : Once rule a₀ ds u b)
-    (s : SameWords (ruleVote rule) (joined cs) (joined ds)) where
-  abbrev vote : Vote
-  vote = ruleVote rule
-
-  framing-same : u .framing ≡ t .framing
-  framing-same = framing-is o′ ∙ rw (same-words vote s) (sym (framing-is o))
-
-  runs-same : u .runs ≡ t .runs
-  runs-same = runs-are o′ ∙ rw (same-words vote s) (sym (runs-are o))
-
-  frame-same : u .frame ≡ t .frame
-  frame-same = o′ .rest .frame-is ∙ rw (same-words vote s) (sym (o .rest .frame-is))
-
-  area-same : b ≡ a
-  area-same = o′ .area-is ∙ rw (same-frames vote s) (sym (o .area-is))
-
-  paid-same : paid ds ≡ paid cs
-  paid-same = o′ .paid-is ∙ rw (same-majors vote s) (sym (o .paid-is))
-
-  operators-same : SameDuties cs ds → u .operators ≡ t .operators
-  operators-same d =
-      let x = o .duties in
-      let y = o′ .duties in
-      let to-each : (k : ℕ) → k < length (u .operators .paid) → paidTo k (u .operators) ≡ paidTo k (t .operators) =
-      λ k h.
-      let few : k < 8 = omega (arith, y .eight) in
-      y .paid-to k few ∙ frames-agree vote k [] [] (stamped 0 cs) (stamped 0 ds) (d .as-taken) fronts ∙ sym (x .paid-to k few) in
-      ap₂ (λ (l : List ℕ) (k : ℕ). record { paid = l; duty = k }) (ext-getD 0 _ _ (y .eight ∙ sym (x .eight)) to-each)
-      (y .duty-is ∙ d .at-the-end ∙ sym (x .duty-is))
-    where
-      fronts : (n : ℕ)
-          → length (majorsIn vote (take n (map (λ x. x .0) (stamped 0 ds)))) ≡ length (majorsIn vote (take n (map (λ x. x .0) (stamped 0 cs))))
-      fronts n = rw (← joined-stamped 0 cs, ← joined-stamped 0 ds) (ap length (same-majors vote (same-front vote n s)))
-
-  same-but-copies : SameDuties cs ds → SameButCopies t u
-  same-but-copies d =
-      let c = o .counts in
-      let c′ = o′ .counts in
-      let bytes : u .groups .bytes ≡ t .groups .bytes = c′ .bytes-is ∙ same-length vote s ∙ sym (c .bytes-is) in
-      let fill : u .groups .fill ≡ t .groups .fill = c′ .fill-is ∙ same-labelled vote as-fill s ∙ sym (c .fill-is) in
-      let stray : u .groups .stray ≡ t .groups .stray = c′ .stray-is ∙ same-labelled vote as-stray s ∙ sym (c .stray-is) in
-      let voted : u .groups .voted ≡ t .groups .voted = omega (arith, c′ .voted-is, c .voted-is, same-labelled vote as-voted s) in
-      let split : u .groups .split ≡ t .groups .split = omega (arith, c′ .split-is, c .split-is, same-labelled vote as-split s) in
-      let unclosed : u .groups .«open» ≡ t .groups .«open» = c′ .open-is ∙ same-labelled vote as-open s ∙ sym (c .open-is) in
-      let rule-same : u .rule ≡ t .rule = o′ .rule-is ∙ sym (o .rule-is) in
-      rw (
-        ← bytes,
-        ← fill,
-        ← stray,
-        ← voted,
-        ← split,
-        ← unclosed,
-        ← framing-same,
-        ← runs-same,
-        ← operators-same d,
-        ← rule-same,
-        ← frame-same,
-      )
+use Rattle.labelling.proofs.SameWords.{SameWords, same-front, same-length, same-majors}
+use Rattle.labelling.proofs.CopyErrors.{words-stay, weak-rise, first-kept, second-kept}
+use Rattle.labelling.proofs.SameLeft.{same-but-copies, area-same, paid-same}
 
 -- ---- call by call
 
@@ -189,87 +52,180 @@ unfolding paid
 paid-more cs c =
     rw (concatMap-append paidBy cs (takes c ∷ []), append-nil (pays c), length-append (concatMap paidBy cs) (pays c), pays-count c)
 
-joined-more : (cs : List Call) (c : Call) (rest : List Call) → joined (cs ++ c ∷ []) ++ joined rest ≡ joined cs ++ joined (c ∷ rest)
+-- the bytes bs after one call more
+joined-more : (cs : List Call) (c : Call) (bs : List ℕ) → joined (cs ++ c ∷ []) ++ bs ≡ joined cs ++ (takenBy c ++ bs)
 unfolding joined
-joined-more cs c rest =
-    rw (concatMap-append takenBy cs (c ∷ []), append-nil (takenBy c)) (append-assoc (concatMap takenBy cs) (takenBy c) (concatMap takenBy rest))
+joined-more cs c bs =
+    rw (concatMap-append takenBy cs (c ∷ []), append-nil (takenBy c)) (append-assoc (concatMap takenBy cs) (takenBy c) bs)
+
+joined-first : (c : Call) (cs : List Call) → joined (c ∷ cs) ≡ takenBy c ++ joined cs
+unfolding joined
+joined-first c cs = refl
+
+-- what demand 3 says of the last call of a list
+last-pays : (vote : Vote) (js : List ℕ) (cs : List Call) (c : TakeCall) → Each vote js (cs ++ takes c ∷ []) → PaysAt vote (js ++ joined cs) c
+unfolding joined
+last-pays vote js [] c e = rw (append-nil js) (e .0)
+last-pays vote js (takes b ∷ cs) c e = rw (append-assoc js (taken b) (joined cs)) at (last-pays vote (js ++ taken b) cs c (e .1))
+last-pays vote js (changes b ∷ cs) c e = last-pays vote js cs c e
+
+-- after js and js′ the calls c and d have as many bytes, and as far as k of them there are the same major frames: d takes no more than c
+no-sooner : {vote : Vote} {js js′ : List ℕ} {c d : TakeCall} → takeRefusal c ≡ 0 → PaysAt vote js c → PaysAt vote js′ d → length (d .piece) ≡ length (c .piece)
+    → ((k : ℕ) → majorsIn vote (js′ ++ take k (d .piece)) ≡ majorsIn vote (js ++ take k (c .piece))) → answer d .taken ≤ answer c .taken
+unfolding taken
+no-sooner {vote} {js} {js′} {c} {d} r p q long same = go (ltb (answer c .taken) (answer d .taken)) refl
+  where
+    n : ℕ
+    n = answer c .taken
+
+    stops : (e : Bool) → answer c .complete ≡ e → n < answer d .taken → ⊥
+    stops false e h =
+        omega (arith, p .count-is, q .count-is, ap length (p .accepted-all r e), length-take (answer d .taken) (d .piece))
+    stops true e h =
+        let one-new = rw e at (p .holds) in
+        let none-new : majorsIn vote (js ++ take n (c .piece)) ≡ majorsIn vote js =
+        sym (same n) ∙ q .before n h ∙ rw (append-nil js, append-nil js′) at (same 0) in
+        let more = length-append (majorsIn vote js) (p .new) in
+        omega (arith, ap length (p .after), ap length none-new, more, ap length (one-new .1))
+
+    go : (e : Bool) → ltb n (answer d .taken) ≡ e → answer d .taken ≤ n
+    go true e = absurd (stops (answer c .complete) refl (ltb-true n (answer d .taken) e))
+    go false e = ltb-false n (answer d .taken) e
 
 -- as many bytes are taken
-as-long : {cs ds : List Call} → SameCuts cs ds → length (joined ds) ≡ length (joined cs)
-as-long {cs} {ds} s =
-    let duties = cuts-duties cs ds s .as-taken in
+as-long : {cs ds : List Call} → SameDuties cs ds → length (joined ds) ≡ length (joined cs)
+as-long {cs} {ds} d =
     let bytes : (l : List (ℕ × ℕ)) → length (map (λ x. x .0) l) ≡ length (map (λ x. x .1) l) = λ l. length-map l _ ∙ sym (length-map l _) in
-    rw (joined-stamped 0 cs, joined-stamped 0 ds) (bytes (stamped 0 ds) ∙ ap length duties ∙ sym (bytes (stamped 0 cs)))
+    rw (joined-stamped 0 cs, joined-stamped 0 ds) (bytes (stamped 0 ds) ∙ ap length (d .as-taken) ∙ sym (bytes (stamped 0 cs)))
 
 module _ (rule : ℕ) (is-rule : isRule rule ≡ true) (a₀ : List ℕ) (whole : length a₀ ≡ 16384) where
   -- two lists of calls, as far as they have gone
   record SoFar (cs ds : List Call) (t u : Tally) (a b : List ℕ) : Type 0 where
     here : Handed (fresh rule) a₀ cs t a
     there : Handed (fresh rule) a₀ ds u b
-    cuts : SameCuts cs ds
+    duties : SameDuties cs ds
 
-  -- and what they leave then, whatever bytes come
-  record LeftSame (cs ds : List Call) (t u : Tally) (a b : List ℕ) : Type 0 where
+  -- and what they have left by then
+  record Left (cs ds : List Call) (t u : Tally) (a b : List ℕ) : Type 0 where
     tally-left : SameButCopies t u
     area-left : b ≡ a
     paid-left : paid ds ≡ paid cs
 
   left-same : {cs ds : List Call} {t u : Tally} {a b : List ℕ} (bs bs′ : List ℕ) → SoFar cs ds t u a b
-      → SameWords (ruleVote rule) (joined cs ++ bs) (joined ds ++ bs′) → LeftSame cs ds t u a b
+      → SameWords (ruleVote rule) (joined cs ++ bs) (joined ds ++ bs′) → Left cs ds t u a b
   left-same {cs} {ds} {t} {u} {a} {b} bs bs′ x s =
       let front = same-front (ruleVote rule) (length (joined cs)) s in
       let so-far : SameWords (ruleVote rule) (joined cs) (joined ds) =
-      rw (take-append-seam (joined cs) bs, ← as-long (x .cuts), take-append-seam (joined ds) bs′) at front in
+      rw (take-append-seam (joined cs) bs, ← as-long (x .duties), take-append-seam (joined ds) bs′) at front in
       let o = once rule is-rule a₀ whole cs t a (x .here) in
       let o′ = once rule is-rule a₀ whole ds u b (x .there) in
       record {
-        tally-left = same-but-copies o o′ so-far (cuts-duties cs ds (x .cuts));
+        tally-left = same-but-copies o o′ so-far (x .duties);
         area-left = area-same o o′ so-far;
         paid-left = paid-same o o′ so-far;
       }
 
+  -- ---- one call more on each
+
+  after-both : (c d : Call) (cs ds cs′ ds′ : List Call) → SameWords (ruleVote rule) (joined cs ++ joined (c ∷ cs′)) (joined ds ++ joined (d ∷ ds′))
+      → SameWords (ruleVote rule) (joined (cs ++ c ∷ []) ++ joined cs′) (joined (ds ++ d ∷ []) ++ joined ds′)
+  after-both c d cs ds cs′ ds′ s =
+      rw (joined-more cs c (joined cs′), joined-more ds d (joined ds′)) (rw (joined-first c cs′, joined-first d ds′) at s)
+
+  module _ {cs ds : List Call} {t u : Tally} {a b : List ℕ} (x : SoFar cs ds t u a b) where
+    -- of either kind
+    more : {c d : Call} {t′ u′ : Tally} {a′ b′ : List ℕ} → Handed t a (c ∷ []) t′ a′ → Handed u b (d ∷ []) u′ b′ → SameCuts (c ∷ []) (d ∷ [])
+        → SoFar (cs ++ c ∷ []) (ds ++ d ∷ []) t′ u′ a′ b′
+    more h g same = record { here = handed-append (x .here) h; there = handed-append (x .there) g; duties = duties-append (x .duties) same }
+
+    -- two calls that take as many bytes
+    answers-same : (bs bs′ : List ℕ) (c d : TakeCall)
+        → SoFar (cs ++ takes c ∷ []) (ds ++ takes d ∷ []) (answer c .tally) (answer d .tally) (answer c .area) (answer d .area)
+        → answer d .taken ≡ answer c .taken → SameWords (ruleVote rule) (joined (cs ++ takes c ∷ []) ++ bs) (joined (ds ++ takes d ∷ []) ++ bs′)
+        → SameAnswer c d
+    answers-same bs bs′ c d y same s =
+        let before = left-same (taken c ++ bs) (taken d ++ bs′) x (rw (joined-more cs (takes c) bs, joined-more ds (takes d) bs′) at s) in
+        let after = left-same bs bs′ y s in
+        let one-more : one (answer d .complete) ≡ one (answer c .complete) =
+        omega (arith, paid-more cs c, paid-more ds d, ap length (before .paid-left), ap length (after .paid-left)) in
+        record {
+          taken-same = same;
+          complete-same = same-test (answer c .complete) (answer d .complete) one-more;
+          area-same = after .area-left;
+          tally-same = after .tally-left;
+        }
+
+  -- the next call on each, over streams that go on with the same words: it stops at the same byte
+  module _ {cs ds : List Call} {t u : Tally} {a b : List ℕ} (x : SoFar cs ds t u a b) (p p′ : List ℕ)
+      (s : SameWords (ruleVote rule) (joined cs ++ p) (joined ds ++ p′)) (fits : length (joined cs) + length p ≤ 2 ^ 40) where
+    abbrev c : TakeCall
+    c = record { tally = t; piece = p; area = a }
+
+    abbrev d : TakeCall
+    d = record { tally = u; piece = p′; area = b }
+
+    as-many-more : length p′ ≡ length p
+    as-many-more =
+        omega (arith, same-length (ruleVote rule) s, length-append (joined cs) p, length-append (joined ds) p′, as-long (x .duties))
+
+    c-accepted : takeRefusal c ≡ 0
+    c-accepted = once rule is-rule a₀ whole cs t a (x .here) .goes-on p fits
+
+    d-accepted : takeRefusal d ≡ 0
+    d-accepted = once rule is-rule a₀ whole ds u b (x .there) .goes-on p′ (omega (arith, as-many-more, as-long (x .duties)))
+
+    c-pays : PaysAt (ruleVote rule) (joined cs) c
+    c-pays = last-pays (ruleVote rule) [] cs c (once rule is-rule a₀ whole (cs ++ takes c ∷ []) _ _ (handed-append (x .here) (accepted c c-accepted done)) .each)
+
+    d-pays : PaysAt (ruleVote rule) (joined ds) d
+    d-pays = last-pays (ruleVote rule) [] ds d (once rule is-rule a₀ whole (ds ++ takes d ∷ []) _ _ (handed-append (x .there) (accepted d d-accepted done)) .each)
+
+    same-majors-at : (k : ℕ) → majorsIn (ruleVote rule) (joined ds ++ take k p′) ≡ majorsIn (ruleVote rule) (joined cs ++ take k p)
+    same-majors-at k =
+        rw (take-append-add (joined cs) p k, ← as-long (x .duties), take-append-add (joined ds) p′ k)
+        at (same-majors (ruleVote rule) (same-front (ruleVote rule) (length (joined cs) + k) s))
+
+    same-stop : answer d .taken ≡ answer c .taken
+    same-stop =
+        omega (
+          arith,
+          no-sooner c-accepted c-pays d-pays as-many-more same-majors-at,
+          no-sooner d-accepted d-pays c-pays (sym as-many-more) (λ k. sym (same-majors-at k)),
+        )
+
+    next-same : SameAnswer c d
+    unfolding taken
+    next-same =
+        let next = more x (accepted c c-accepted done) (accepted d d-accepted done) (both-take c d c-accepted d-accepted same-stop ends) in
+        let n = answer c .taken in
+        let m = answer d .taken in
+        answers-same x (drop n p) (drop m p′) c d next same-stop
+        (rw (joined-more cs (takes c) (drop n p), joined-more ds (takes d) (drop m p′), take-append-drop n p, take-append-drop m p′) s)
+
+  -- ---- call by call
+
   each-same : {cs ds cs′ ds′ : List Call} {t u t′ u′ : Tally} {a b a′ b′ : List ℕ} → SameCuts cs′ ds′ → SoFar cs ds t u a b → Handed t a cs′ t′ a′
       → Handed u b ds′ u′ b′ → SameWords (ruleVote rule) (joined cs ++ joined cs′) (joined ds ++ joined ds′) → SameAnswers cs′ ds′
   each-same ends x h g s = ends
-  each-same {cs} (refused-here {cs = rest} c n r k) x h g s =
+  each-same (refused-here {cs = rest} c n r k) x h g s =
       refused-here c n r (each-same k x (handed-refused c n r h) g (rw (joined-refused c rest n r) at s))
-  each-same {ds = ds} (refused-there {ds = rest} d n r k) x h g s =
+  each-same (refused-there {ds = rest} d n r k) x h g s =
       refused-there d n r (each-same k x h (handed-refused d n r g) (rw (joined-refused d rest n r) at s))
   each-same {cs} {ds} {t} {u} {a} {b} (both-take {cs = rest} {ds = rest′} c d r r′ same k) x h g s =
       let p = took c r h in
       let q = took d r′ g in
       let first : Handed t a (takes c ∷ []) (answer c .tally) (answer c .area) = rw (p .tally-is, p .area-is) (accepted c r done) in
       let second : Handed u b (takes d ∷ []) (answer d .tally) (answer d .area) = rw (q .tally-is, q .area-is) (accepted d r′ done) in
-      let next : SoFar (cs ++ takes c ∷ []) (ds ++ takes d ∷ []) (answer c .tally) (answer d .tally) (answer c .area) (answer d .area) =
-      record {
-        here = handed-append (x .here) first;
-        there = handed-append (x .there) second;
-        cuts = beside-append (x .cuts) (both-take c d r r′ same ends);
-      } in
-      let s′ = rw (← joined-more cs (takes c) rest, ← joined-more ds (takes d) rest′) at s in
-      let before = left-same (joined (takes c ∷ rest)) (joined (takes d ∷ rest′)) x s in
-      let after = left-same (joined rest) (joined rest′) next s′ in
-      let one-more : one (answer d .complete) ≡ one (answer c .complete) =
-      omega (arith, paid-more cs c, paid-more ds d, ap length (before .paid-left), ap length (after .paid-left)) in
-      both-take c d r r′ record {
-        taken-same = same;
-        complete-same = same-test (answer c .complete) (answer d .complete) one-more;
-        area-same = after .area-left;
-        tally-same = after .tally-left;
-      }
-      (each-same k next (p .rest) (q .rest) s′)
+      let next = more x first second (both-take c d r r′ same ends) in
+      let s′ = after-both (takes c) (takes d) cs ds rest rest′ s in
+      both-take c d r r′ (answers-same x (joined rest) (joined rest′) c d next same s′) (each-same k next (p .rest) (q .rest) s′)
   each-same {cs} {ds} {t} {u} {a} {b} (both-change {cs = rest} {ds = rest′} c d r r′ same k) x h g s =
       let p = duty-changed c r h in
       let q = duty-changed d r′ g in
       let first : Handed t a (changes c ∷ []) (dutyAnswer c) a = rw (p .tally-is) (changed c r done) in
       let second : Handed u b (changes d ∷ []) (dutyAnswer d) b = rw (q .tally-is) (changed d r′ done) in
-      let next : SoFar (cs ++ changes c ∷ []) (ds ++ changes d ∷ []) (dutyAnswer c) (dutyAnswer d) a b =
-      record {
-        here = handed-append (x .here) first;
-        there = handed-append (x .there) second;
-        cuts = beside-append (x .cuts) (both-change c d r r′ same ends);
-      } in
-      let s′ = rw (← joined-more cs (changes c) rest, ← joined-more ds (changes d) rest′) at s in
+      let next = more x first second (both-change c d r r′ same ends) in
+      let s′ = after-both (changes c) (changes d) cs ds rest rest′ s in
       both-change c d r r′ (left-same (joined rest) (joined rest′) next s′ .tally-left) (each-same k next (p .rest) (q .rest) s′)
 
   -- ---- the claim
@@ -297,5 +253,25 @@ module _ (rule : ℕ) (is-rule : isRule rule ≡ true) (a₀ : List ℕ) (whole 
         second-same = λ q. o′ .rest .second-is ∙ second-kept e q ∙ sym (o .rest .second-is);
         area-same = area-same o o′ s;
         paid-same = paid-same o o′ s;
-        each-call = λ cuts. each-same cuts (record { here = done; there = done; cuts = ends }) h g s;
+        each-call = λ cuts. each-same cuts (record { here = done; there = done; duties = record { as-taken = refl; at-the-end = refl } }) h g s;
       }
+
+  pub stops-same : (cs ds : List Call) (t u : Tally) (a b : List ℕ) → Handed (fresh rule) a₀ cs t a → Handed (fresh rule) a₀ ds u b → SameDuties cs ds
+      → (p p′ q q′ : List ℕ) → CopyErrors (joined cs ++ (p ++ q)) (joined ds ++ (p′ ++ q′)) → length p′ ≡ length p
+      → length (joined cs) + length p ≤ 2 ^ 40
+      → SameAnswer (record { tally = t; piece = p; area = a }) (record { tally = u; piece = p′; area = b })
+  stops-same cs ds t u a b h g d p p′ q q′ e long fits =
+      let vote = ruleVote rule in
+      let x : SoFar cs ds t u a b = record { here = h; there = g; duties = d } in
+      let front = same-front vote (length (joined cs) + length p) (words-stay (majority rule) e) in
+      let s : SameWords vote (joined cs ++ p) (joined ds ++ p′) =
+      rw (
+        take-append-add (joined cs) (p ++ q) (length p),
+        take-append-seam p q,
+        ← as-long d,
+        ← long,
+        take-append-add (joined ds) (p′ ++ q′) (length p′),
+        take-append-seam p′ q′,
+      )
+      at front in
+      next-same x p p′ s fits

@@ -3,7 +3,7 @@
 use mathlib.Core.Path.{_≡_}
 use mathlib.Core.Bool.{not}
 use mathlib.Core.List.{List, [], _∷_, _++_}
-use Prim.Native.Nat.{ℕ, _+_, _≤_}
+use Prim.Native.Nat.{ℕ, _+_, _^_, _≤_}
 use lib.Dec.{eqb}
 use lib.ListN.{length, getD}
 use Rattle.base.specs.Format.{majorFrame}
@@ -134,4 +134,11 @@ pub record CopyErrorsPromise (r : Tally) : Type 0 where
   pub unharmed : (a₀ : List ℕ) → length a₀ ≡ majorFrame → (cs ds : List Call) (t u : Tally) (a b : List ℕ) → Handed r a₀ cs t a → Handed r a₀ ds u b
       → SameDuties cs ds → CopyErrors (joined cs) (joined ds) → Unharmed cs ds t u a b
   pub cuts-suffice : (cs ds : List Call) → SameCuts cs ds → SameDuties cs ds
+  -- on either side one call more, handed as many bytes p and p′ of the streams, of which q and q′ are still to come, stops at the same byte: who cuts the
+  -- streams alike has the same cuts
+  pub stops-same : (a₀ : List ℕ) → length a₀ ≡ majorFrame → (cs ds : List Call) (t u : Tally) (a b : List ℕ) → Handed r a₀ cs t a → Handed r a₀ ds u b
+      → SameDuties cs ds → (p p′ q q′ : List ℕ) → CopyErrors (joined cs ++ (p ++ q)) (joined ds ++ (p′ ++ q′)) → length p′ ≡ length p
+      → length (joined cs) + length p ≤ 2 ^ 40
+      → SameAnswer (record { tally = t; piece = p; area = a }) (record { tally = u; piece = p′; area = b })
+  -- and there are such streams
   pub not-empty : CopyErrorsReach
