@@ -3,7 +3,7 @@
 use crate::tally::{Tally, FRAME, NUMBERS};
 
 extern "C" {
-    fn pcd_fresh(numbers: *mut [u64; NUMBERS], frame: *mut [u8; FRAME]);
+    fn pcd_fresh(rule: u64, numbers: *mut [u64; NUMBERS], frame: *mut [u8; FRAME]) -> u8;
     fn pcd_take(
         numbers: *mut [u64; NUMBERS],
         frame: *mut [u8; FRAME],
@@ -48,16 +48,18 @@ impl State {
 }
 
 // A refused call leaves u64::MAX in the last two.
+#[derive(PartialEq, Eq)]
 pub struct Taken {
     pub refusal: u8,
     pub taken: u64,
     pub complete: u64,
 }
 
-pub fn fresh() -> State {
+// The refusal, and what is left, which a refused call has written too.
+pub fn fresh(rule: u64) -> (u8, State) {
     let mut s = State { numbers: [u64::MAX; NUMBERS], frame: [0xFF; FRAME] };
-    unsafe { pcd_fresh(&mut s.numbers, &mut s.frame) };
-    s
+    let refusal = unsafe { pcd_fresh(rule, &mut s.numbers, &mut s.frame) };
+    (refusal, s)
 }
 
 pub fn take(s: &mut State, piece: &[u8], area: &mut [u8]) -> Taken {

@@ -1,6 +1,6 @@
 // A streaming reader in safe Rust that goes a byte at a time: what one writes first.
 
-use crate::tally::{Tally, FILL, FRAME, FRAME_SYNC, NUMBER_PLACE, SYNC};
+use crate::tally::{Tally, BY_BITS, FILL, FRAME, FRAME_SYNC, NUMBER_PLACE, SYNC};
 
 // Takes the whole piece, or stops just after the byte that completes a major frame: the bytes taken, and whether one is complete.
 pub fn take(t: &mut Tally, piece: &[u8], area: &mut [u8]) -> (usize, bool) {
@@ -40,15 +40,17 @@ pub fn byte(t: &mut Tally, b: u8, area: &mut [u8]) -> bool {
     }
 }
 
-// The word, and the copy that is not it, counted from 1; 0 for none.
+// The word, and the copy that two equal ones outvote, counted from 1; 0 for none.
 #[inline(always)]
-pub fn vote(first: u8, second: u8, third: u8) -> (Option<u8>, usize) {
+pub fn vote(rule: u64, first: u8, second: u8, third: u8) -> (Option<u8>, usize) {
     if first == second {
         (Some(first), if first == third { 0 } else { 3 })
     } else if first == third {
         (Some(first), 2)
     } else if second == third {
         (Some(second), 1)
+    } else if rule == BY_BITS {
+        (Some(first & second | first & third | second & third), 0)
     } else {
         (None, 0)
     }
@@ -62,7 +64,7 @@ pub fn count_weak(counts: &mut [u64; 3], weak: usize) {
 }
 
 pub fn group(t: &mut Tally, third: u8, area: &mut [u8]) -> bool {
-    let (voted, weak) = vote(t.first, t.second, third);
+    let (voted, weak) = vote(t.rule, t.first, t.second, third);
     match voted {
         Some(_) => t.voted += 1,
         None => t.split += 1,

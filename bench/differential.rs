@@ -2,6 +2,7 @@
 // alone by `1` and its own seed. The readers that the timing compares with are held to the same, and each seed tries the lookup, the
 // writer, the codecs and every item of every kind of word 72 too.
 
+mod alike;
 mod bridge;
 mod bytewise;
 mod codecs;
@@ -23,7 +24,7 @@ use std::time::Instant;
 use bridge::State;
 use plain::{Shifts, LIMIT};
 use stream::Random;
-use tally::{Tally, AREA, OPERATORS};
+use tally::{Tally, AREA, BY_BITS, BY_BYTES, OPERATORS};
 
 // One stream in so many is long enough for a major frame.
 const RARE: usize = 40;
@@ -70,6 +71,7 @@ struct Seen {
     at_limit: u64,
     refused: [u64; 4],
     no_tally: u64,
+    no_rule: u64,
     // Changes of duty, those that were refused by number, and those between the first and the last byte of a major frame.
     changes: u64,
     refused_changes: [u64; 15],
@@ -118,6 +120,7 @@ impl Seen {
             ("so for numbers that are no tally's", self.no_tally),
             ("refused 2", self.refused[2]),
             ("refused 3", self.refused[3]),
+            ("refused 15", self.no_rule),
         ];
         let changes = vec![
             ("accepted", self.changes),
@@ -156,6 +159,8 @@ struct Trial {
     r: Random,
     bytes: Vec<u8>,
     start: Vec<u8>,
+    // The rule that words are voted by, and the stream under it.
+    rule: u64,
     whole: plain::Reading,
 }
 
@@ -177,29 +182,49 @@ impl Trial {
         let bytes = stream::any_stream(&mut r, RARE);
         let mut start = vec![0; AREA];
         r.fill(&mut start);
-        let mut shifts = Shifts::new();
-        shifts.taken(bytes.len());
-        let whole = plain::read(&bytes, &shifts);
-        Trial { r, bytes, start, whole }
+        let whole = plain::read_alone(&bytes, BY_BYTES);
+        Trial { r, bytes, start, rule: BY_BYTES, whole }
     }
 
     fn run(&mut self, seen: &mut Seen) -> Result<(), String> {
         seen.bytes += self.bytes.len() as u64;
-        seen.note(&self.whole.tally);
-        self.proved(seen)?;
-        self.streaming("bytewise", bytewise::take)?;
-        self.streaming("tuned", tuned::take)?;
-        self.streaming("nominal", nominal::take)?;
+        for rule in [BY_BYTES, BY_BITS] {
+            self.rule = rule;
+            self.whole = plain::read_alone(&self.bytes, rule);
+            self.readers(seen).map_err(|what| format!("rule {rule}: {what}"))?;
+        }
+        self.fresh(seen)?;
+        let longest = self.longest_piece();
+        alike::trial(&mut self.r, &self.bytes, &self.start, longest)?;
         writer::trials(&mut self.r)?;
         lookup::trials(&mut self.r)?;
         codecs::trials(&mut self.r)?;
         items::trials(&mut self.r, &mut seen.word72)
     }
 
+    fn readers(&mut self, seen: &mut Seen) -> Result<(), String> {
+        seen.note(&self.whole.tally);
+        self.proved(seen)?;
+        self.streaming("bytewise", bytewise::take)?;
+        self.streaming("tuned", tuned::take)?;
+        self.streaming("nominal", nominal::take)
+    }
+
+    // A fresh tally of the rule asked for; of the vote by bytes where there is no such rule, and that is refused 15.
+    fn fresh(&mut self, seen: &mut Seen) -> Result<(), String> {
+        const ASKED: [u64; 10] = [0, BY_BYTES, BY_BITS, 3, 256, 257, (1 << 32) + 2, 1 << 63, u64::MAX, u64::MAX - 1];
+        let rule = ASKED[self.r.below(ASKED.len())];
+        let refused = rule != BY_BYTES && rule != BY_BITS;
+        seen.no_rule += refused as u64;
+        let (refusal, s) = bridge::fresh(rule);
+        held(refusal == if refused { 15 } else { 0 }, "the refusal of a fresh tally", 0)?;
+        held(s == State::of(&Tally::fresh(if refused { BY_BYTES } else { rule })), "a fresh tally", 0)
+    }
+
     // The proved reader, in calls cut at random, with changes of duty and refused calls of both kinds among them.
     fn proved(&mut self, seen: &mut Seen) -> Result<(), String> {
-        let mut s = bridge::fresh();
-        held(s == State::of(&Tally::fresh()), "a fresh tally", 0)?;
+        let (_, mut s) = bridge::fresh(self.rule);
+        held(s == State::of(&Tally::fresh(self.rule)), "a fresh tally", 0)?;
         let mut area = self.start.clone();
         let mut shifts = Shifts::new();
         let (mut at, mut paid) = (0, 0);
@@ -267,7 +292,7 @@ impl Trial {
     // The tally and the area after a list of calls that took as many bytes as are stamped.
     fn compare(&self, s: &State, area: &[u8], shifts: &Shifts) -> Result<(), String> {
         let at = shifts.stamps.len();
-        self.left(s, area, &plain::read(&self.bytes[..at], shifts), at)
+        self.left(s, area, &plain::read(&self.bytes[..at], self.rule, shifts), at)
     }
 
     fn left(&self, s: &State, area: &[u8], reading: &plain::Reading, at: usize) -> Result<(), String> {
@@ -370,14 +395,14 @@ impl Trial {
         held((answer.taken, answer.complete) == (taken as u64, complete as u64), "the answer of a call to the limit", at)?;
         let mut shifts = shifts.clone();
         shifts.taken(taken);
-        let mut reading = plain::read(&self.bytes[..at + taken], &shifts);
+        let mut reading = plain::read(&self.bytes[..at + taken], self.rule, &shifts);
         more.add_to(&mut reading.tally);
         self.left(&s, &area, &reading, at + taken)
     }
 
     // A reader in Rust, in calls cut elsewhere and on other shifts.
     fn streaming(&mut self, name: &str, take: fn(&mut Tally, &[u8], &mut [u8]) -> (usize, bool)) -> Result<(), String> {
-        let mut t = Tally::fresh();
+        let mut t = Tally::fresh(self.rule);
         let mut area = self.start.clone();
         let mut shifts = Shifts::new();
         let (mut at, mut paid) = (0, 0);

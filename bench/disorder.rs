@@ -4,7 +4,7 @@
 use crate::bridge::State;
 use crate::plain::LIMIT;
 use crate::stream::Random;
-use crate::tally::{Tally, FRAME, NUMBERS, OPERATORS};
+use crate::tally::{Tally, BY_BITS, FRAME, NUMBERS, OPERATORS};
 
 // Where the copies and the flags stand among the numbers; all others are counts.
 const COPIES: [usize; 2] = [6, 7];
@@ -95,7 +95,7 @@ fn one_count(r: &mut Random, numbers: &mut [u64; NUMBERS]) {
 }
 
 fn some_counts(r: &mut Random, t: &mut Tally) {
-    match r.below(17) {
+    match r.below(20) {
         0 => fill_up_to(t, huge(r)),
         1 => t.hunting = !t.hunting,
         2 => t.erasure = !t.erasure,
@@ -141,6 +141,14 @@ fn some_counts(r: &mut Random, t: &mut Tally) {
             let second = (first + 1 + r.below(OPERATORS - 1)) % OPERATORS;
             t.paid[first] = t.paid[first].wrapping_add(more);
             t.paid[second] = t.paid[second].wrapping_sub(more);
+        }
+        // No rule, and a split group under the vote by bits.
+        16 => t.rule = [0, 3, 256 + t.rule, huge(r)][r.below(4)],
+        17 | 18 if t.split != 0 => t.rule = BY_BITS,
+        17 | 18 if t.voted > t.weak.iter().sum() => {
+            t.rule = BY_BITS;
+            t.voted -= 1;
+            t.split += 1;
         }
         _ => {
             t.loose = t.loose.wrapping_sub(1);

@@ -5,7 +5,7 @@ use std::fs::{self, File};
 use std::io::{self, Read};
 use std::process::{Command, Stdio};
 
-use crate::tally::{Tally, AREA};
+use crate::tally::{Tally, AREA, BY_BYTES};
 use crate::{fail, nominal, seconds, ROUNDS};
 
 const PROGRAM: &str = "target/bin/pcd_tally";
@@ -58,8 +58,9 @@ fn read_alone() -> io::Result<usize> {
     }
 }
 
+// The program keeps the vote by bytes.
 fn tally_of(bytes: &[u8]) -> Tally {
-    let mut t = Tally::fresh();
+    let mut t = Tally::fresh(BY_BYTES);
     let mut area = vec![0; AREA];
     let mut at = 0;
     while at < bytes.len() {

@@ -1,7 +1,7 @@
 // An independent reader over whole lists, written from papers 01 and 02 and docs/DECISIONS.md. It is meant to be read beside the paper, not to be
 // fast: bytes are cut into groups, words into hunted stretches and frames, closed frames into runs, and every count is a count of pieces.
 
-use crate::tally::{Tally, AREA, FILL, FRAME, FRAME_SYNC, NUMBER_PLACE, OPERATORS, SYNC};
+use crate::tally::{Tally, AREA, BY_BITS, BY_BYTES, FILL, FRAME, FRAME_SYNC, NUMBER_PLACE, OPERATORS, SYNC};
 
 // No count of a tally is above this.
 pub const LIMIT: u64 = 1 << 40;
@@ -15,7 +15,7 @@ pub enum Label {
     Open,
 }
 
-// A voted word, or none where all three copies differ.
+// A voted word, or none where the vote by bytes gives none: all three copies differ.
 pub type Word = Option<u8>;
 
 // What the bytes are: a label each, the word of each closed group, and how many bytes there are up to its last copy.
@@ -30,7 +30,11 @@ pub struct Groups {
     pub second: u8,
 }
 
-pub fn vote(a: u8, b: u8, c: u8) -> Word {
+fn vote(rule: u64, copies: [u8; 3]) -> Word {
+    if rule == BY_BITS { Some(by_bits(copies)) } else { by_bytes(copies) }
+}
+
+fn by_bytes([a, b, c]: [u8; 3]) -> Word {
     if a == b || a == c {
         Some(a)
     } else if b == c {
@@ -40,19 +44,24 @@ pub fn vote(a: u8, b: u8, c: u8) -> Word {
     }
 }
 
-// Which copy has another value than the word that is voted (paper 02, request 2); 0 where none has, or no word is voted.
-pub fn weak(copies: [u8; 3]) -> usize {
-    let [a, b, c] = copies;
-    let outvoted = |word: u8| copies.iter().position(|&copy| copy != word);
-    vote(a, b, c).and_then(outvoted).map_or(0, |index| index + 1)
+// Each bit is the one that at least two copies have (paper 02, request 6).
+fn by_bits(copies: [u8; 3]) -> u8 {
+    let has = |bit: u8| copies.iter().filter(|&&copy| copy >> bit & 1 == 1).count() >= 2;
+    (0..8).map(|bit| u8::from(has(bit)) << bit).sum()
 }
 
-pub fn groups(bytes: &[u8]) -> Groups {
+// Which copy has another value than two equal ones (paper 02, request 2); 0 where none has, or no two are equal.
+fn weak(copies: [u8; 3]) -> usize {
+    let outvoted = |word: u8| copies.iter().position(|&copy| copy != word);
+    by_bytes(copies).and_then(outvoted).map_or(0, |index| index + 1)
+}
+
+pub fn groups(bytes: &[u8], rule: u64) -> Groups {
     let mut g = Groups { labels: Vec::new(), words: Vec::new(), ends: Vec::new(), weak: Vec::new(), first: 0, second: 0 };
     while g.labels.len() < bytes.len() {
         let rest = &bytes[g.labels.len()..];
         match rest[0] {
-            SYNC => group(&mut g, &rest[..rest.len().min(4)]),
+            SYNC => group(&mut g, &rest[..rest.len().min(4)], rule),
             FILL => g.labels.push(Label::Fill),
             _ => g.labels.push(Label::Stray),
         }
@@ -61,7 +70,7 @@ pub fn groups(bytes: &[u8]) -> Groups {
 }
 
 // A group: SYNC and its copies, as many of them as there are.
-fn group(g: &mut Groups, group: &[u8]) {
+fn group(g: &mut Groups, group: &[u8], rule: u64) {
     if let Some(&copy) = group.get(1) {
         g.first = copy;
     }
@@ -70,7 +79,7 @@ fn group(g: &mut Groups, group: &[u8]) {
     }
     let label = match *group {
         [_, a, b, c] => {
-            let word = vote(a, b, c);
+            let word = vote(rule, [a, b, c]);
             g.words.push(word);
             g.ends.push(g.labels.len() + 4);
             g.weak.push(weak([a, b, c]));
@@ -211,8 +220,15 @@ fn frame_bytes(words: &[Word]) -> [u8; FRAME] {
     bytes
 }
 
-pub fn read(bytes: &[u8], shifts: &Shifts) -> Reading {
-    let g = groups(bytes);
+// Where no call names an operator.
+pub fn read_alone(bytes: &[u8], rule: u64) -> Reading {
+    let mut shifts = Shifts::new();
+    shifts.taken(bytes.len());
+    read(bytes, rule, &shifts)
+}
+
+pub fn read(bytes: &[u8], rule: u64, shifts: &Shifts) -> Reading {
+    let g = groups(bytes, rule);
     let c = cut(&g.words);
     let labelled = |label: Label| g.labels.iter().filter(|&&l| l == label).count() as u64;
     let classed = |k: Class| c.frames.iter().filter(|&&at| class(&g.words[at..at + FRAME]) == k).count() as u64;
@@ -241,6 +257,7 @@ pub fn read(bytes: &[u8], shifts: &Shifts) -> Reading {
         weak: [1, 2, 3].map(|copy| g.weak.iter().filter(|&&named| named == copy).count() as u64),
         paid: [0; OPERATORS],
         duty: shifts.duty,
+        rule,
         frame: frame_left(&g.words, &c),
     };
     let (majors, stored) = runs(&g, &c, &mut tally);
@@ -302,6 +319,7 @@ pub fn in_order(t: &Tally) -> bool {
         && sum(&t.weak) <= w(t.voted)
         && sum(&t.paid) == w(t.majors)
         && t.duty < OPERATORS as u64
+        && (t.rule == BY_BYTES || (t.rule == BY_BITS && t.split == 0))
 }
 
 // The refusal of a call of `take`, in the order of paper 01's table. No tally is for numbers that are none's: it is not in order.

@@ -20,11 +20,13 @@ use std::time::Instant;
 
 use bridge::State;
 use stream::{Data, Random};
-use tally::{Tally, AREA};
+use tally::{Tally, AREA, BY_BITS, BY_BYTES};
 
 const ROUNDS: usize = 5;
 const MIB: usize = 1 << 20;
 const STREAMS: [&str; 6] = ["five FILL", "no FILL", "five, bad", "one weak", "random", "as timed"];
+// Those that are measured under the vote by bits.
+const STREAMS_BY_BITS: [&str; 5] = ["five FILL", "five, bad", "one weak", "all differ", "random"];
 
 type Take = fn(&mut Tally, &[u8], &mut [u8]) -> (usize, bool);
 
@@ -48,7 +50,17 @@ fn main() {
     for name in STREAMS {
         let bytes = stream_of(name, mib * MIB);
         for piece in [bytes.len(), 65_536, 4096, 300] {
-            print_row(name, &bytes, piece);
+            print_row(name, &bytes, piece, BY_BYTES);
+        }
+    }
+    println!();
+    println!("the same under the vote by bits");
+    println!();
+    print_heading();
+    for name in STREAMS_BY_BITS {
+        let bytes = stream_of(name, mib * MIB);
+        for piece in [bytes.len(), 4096] {
+            print_row(name, &bytes, piece, BY_BITS);
         }
     }
     println!();
@@ -73,6 +85,15 @@ fn stream_of(name: &str, n: usize) -> Vec<u8> {
             let mut bytes = reel(n, || 5);
             for cell in bytes.chunks_exact_mut(9) {
                 cell[1 + r.below(3)] ^= 1 << r.below(8);
+            }
+            bytes
+        }
+        // No two copies of a group are equal: each is wrong in a bit of its own.
+        "all differ" => {
+            let mut bytes = reel(n, || 5);
+            for cell in bytes.chunks_exact_mut(9) {
+                let bit = r.below(8);
+                (0..3).for_each(|copy| cell[1 + copy] ^= 1 << ((bit + copy) % 8));
             }
             bytes
         }
@@ -145,8 +166,9 @@ fn in_pieces(bytes: &[u8], piece: usize, mut take: impl FnMut(&[u8]) -> (usize, 
     paid
 }
 
-fn proved(bytes: &[u8], piece: usize) -> Left {
-    let mut state = bridge::fresh();
+fn proved(bytes: &[u8], piece: usize, rule: u64) -> Left {
+    let (refusal, mut state) = bridge::fresh(rule);
+    assert_eq!(refusal, 0);
     let mut area = vec![0; AREA];
     let paid = in_pieces(bytes, piece, |part| {
         let answer = bridge::take(&mut state, part, &mut area);
@@ -156,8 +178,8 @@ fn proved(bytes: &[u8], piece: usize) -> Left {
     Left { state, area, paid }
 }
 
-fn in_rust(bytes: &[u8], piece: usize, take: Take) -> Left {
-    let mut t = Tally::fresh();
+fn in_rust(bytes: &[u8], piece: usize, rule: u64, take: Take) -> Left {
+    let mut t = Tally::fresh(rule);
     let mut area = vec![0; AREA];
     let paid = in_pieces(bytes, piece, |part| take(&mut t, part, &mut area));
     Left { state: State::of(&t), area, paid }
@@ -180,15 +202,15 @@ fn print_heading() {
     println!("{:<12} {:>7} | {:>8}{others} |{others}", "stream", "piece", "proved");
 }
 
-fn print_row(name: &str, bytes: &[u8], piece: usize) {
+fn print_row(name: &str, bytes: &[u8], piece: usize, rule: u64) {
     let mut to = vec![1; bytes.len()];
     let mut proved_time = f64::INFINITY;
     let mut times = [f64::INFINITY; READERS.len() + 1];
     for _ in 0..ROUNDS {
-        let (left, time) = seconds(|| proved(bytes, piece));
+        let (left, time) = seconds(|| proved(bytes, piece, rule));
         proved_time = proved_time.min(time);
         for ((reader, take), best) in READERS.iter().zip(&mut times) {
-            let (other, time) = seconds(|| in_rust(bytes, piece, *take));
+            let (other, time) = seconds(|| in_rust(bytes, piece, rule, *take));
             *best = best.min(time);
             held(left == other, &format!("the proved reader and the {reader} one differ on the stream '{name}' in pieces of {piece}"));
         }
@@ -223,7 +245,7 @@ fn linearity() {
             continue;
         }
         let bytes = reel(mib * MIB, || 5);
-        let best = (0..ROUNDS).map(|_| seconds(|| proved(&bytes, bytes.len())).1).fold(f64::INFINITY, f64::min);
+        let best = (0..ROUNDS).map(|_| seconds(|| proved(&bytes, bytes.len(), BY_BYTES)).1).fold(f64::INFINITY, f64::min);
         println!("{mib:>5} MiB   {:.3}", best * 1e9 / bytes.len() as f64);
     }
 }

@@ -8,10 +8,14 @@ pub const NUMBER_PLACE: usize = 65;
 pub const AREA: usize = 16_384;
 
 // A tally crosses as so many numbers and its frame.
-pub const NUMBERS: usize = 32;
+pub const NUMBERS: usize = 33;
 
 // Paper 02, request 5: operators are numbered 0 to 7.
 pub const OPERATORS: usize = 8;
+
+// Paper 02, request 6: a word is voted by bytes or by bits.
+pub const BY_BYTES: u64 = 1;
+pub const BY_BITS: u64 = 2;
 
 #[derive(Clone, Copy, Debug, PartialEq, Eq)]
 pub struct Tally {
@@ -40,11 +44,12 @@ pub struct Tally {
     // The major frames paid to each operator, and who is on duty.
     pub paid: [u64; OPERATORS],
     pub duty: u64,
+    pub rule: u64,
     pub frame: [u8; FRAME],
 }
 
 impl Tally {
-    pub fn fresh() -> Tally {
+    pub fn fresh(rule: u64) -> Tally {
         Tally {
             bytes: 0,
             fill: 0,
@@ -69,6 +74,7 @@ impl Tally {
             weak: [0; 3],
             paid: [0; OPERATORS],
             duty: 0,
+            rule,
             frame: [0; FRAME],
         }
     }
@@ -108,6 +114,7 @@ impl Tally {
             self.paid[6],
             self.paid[7],
             self.duty,
+            self.rule,
         ]
     }
 
@@ -115,7 +122,7 @@ impl Tally {
     pub fn of_numbers(numbers: &[u64; NUMBERS], frame: &[u8; FRAME]) -> Option<Tally> {
         let [bytes, fill, stray, voted, split, open, first, second, rest @ ..] = *numbers;
         let [hunted, good, damaged, unsynced, placed, hunting, matched, erasure, majors, broken, loose, building, rest @ ..] = rest;
-        let [weak1, weak2, weak3, paid @ .., duty] = rest;
+        let [weak1, weak2, weak3, paid @ .., duty, rule] = rest;
         Some(Tally {
             bytes,
             fill,
@@ -140,6 +147,7 @@ impl Tally {
             weak: [weak1, weak2, weak3],
             paid,
             duty,
+            rule,
             frame: *frame,
         })
     }

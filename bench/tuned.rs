@@ -31,6 +31,7 @@ pub fn take(t: &mut Tally, piece: &[u8], area: &mut [u8]) -> (usize, bool) {
 
 // What a loop has counted. FILL is what is left of the bytes.
 struct Seen {
+    rule: u64,
     bytes: usize,
     stray: u64,
     split: u64,
@@ -42,7 +43,7 @@ struct Seen {
 
 impl Seen {
     fn none(t: &Tally) -> Seen {
-        Seen { bytes: 0, stray: 0, split: 0, weak: t.weak, words: 0, first: t.first, second: t.second }
+        Seen { rule: t.rule, bytes: 0, stray: 0, split: 0, weak: t.weak, words: 0, first: t.first, second: t.second }
     }
 
     fn add_to(&self, t: &mut Tally) {
@@ -64,7 +65,7 @@ impl Seen {
         self.words += 1;
         self.first = first;
         self.second = second;
-        let (word, weak) = vote(first, second, third);
+        let (word, weak) = vote(self.rule, first, second, third);
         self.split += u64::from(word.is_none());
         count_weak(&mut self.weak, weak);
         word

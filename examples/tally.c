@@ -63,7 +63,7 @@ int main(int argc, char **argv)
         perror(argv[1]);
         return 1;
     }
-    pcd_fresh(numbers, frame);
+    pcd_fresh(PCD_BY_BYTES, numbers, frame);
     if (read_all(file) != 0)
         return 1;
     printf("PCD TALLY 2\n");

@@ -4,8 +4,8 @@
  *     rt staticlib bridge                                  target/staticlib/libbridge.a
  *     cc -I include program.c target/staticlib/libbridge.a
  *
- * Every function but pcd_fresh, which refuses nothing, returns the number of its refusal, 0 for none. A refused call leaves all lent memory
- * as it was. Where several refusals apply, the lowest number is given; but 4 goes before 2 where a length depends on the spacing.
+ * Every function returns the number of its refusal, 0 for none. A refused call leaves all lent memory as it was; only pcd_fresh then writes,
+ * as it says. Where several refusals apply, the lowest number is given; but 4 goes before 2 where a length depends on the spacing.
  *
  * What a caller owes: each pointer leads to as many elements as its array or its count says, none is NULL (with a count of 0 too), and
  * no two of them overlap. Everything else is tested. Nothing is kept between calls but what the caller lends.
@@ -37,10 +37,11 @@ extern "C" {
 #define PCD_NO_WORD_FOR_DOUBLE 11 /* a double has no six-byte word */
 #define PCD_LIST_TOO_LONG 12     /* a list of instants is longer than 100,000 */
 #define PCD_NO_SUCH_OPERATOR 14  /* the operator's number is above 7 */
+#define PCD_NO_SUCH_RULE 15      /* a fresh tally is asked for with another rule than 1 or 2 */
 
 /* ---- Sizes */
 
-#define PCD_NUMBERS 32           /* the numbers of a tally */
+#define PCD_NUMBERS 33           /* the numbers of a tally */
 #define PCD_MINOR_FRAME 128      /* the bytes of a minor frame */
 #define PCD_MAJOR_FRAME 16384    /* the bytes of a major frame, and of the area that it is put together in */
 #define PCD_COLUMN 128           /* word 72 of each minor frame of a major frame */
@@ -84,11 +85,18 @@ enum {
     PCD_PAID5,
     PCD_PAID6,
     PCD_PAID7,
-    PCD_DUTY        /* who is on duty, 0 to 7 */
+    PCD_DUTY,       /* who is on duty, 0 to 7 */
+    PCD_RULE        /* how a word is voted, PCD_BY_BYTES or PCD_BY_BITS; by bits no group is split */
 };
 
-/* Writes a fresh tally: it hunts, and is otherwise 0, so that operator 0 is on duty. */
-void pcd_fresh(uint64_t numbers[PCD_NUMBERS], uint8_t frame[PCD_MINOR_FRAME]);
+/* The rules of the vote. */
+#define PCD_BY_BYTES 1           /* the byte that at least two copies have; where all three differ the group is split */
+#define PCD_BY_BITS 2            /* each bit is the one that at least two copies have */
+
+/* Writes a fresh tally, which carries the rule to the end: it hunts, and is otherwise 0, so that operator 0 is on duty.
+ *
+ * Refused: 15, another rule. The fresh tally of PCD_BY_BYTES is then written all the same. */
+uint8_t pcd_fresh(uint64_t rule, uint64_t numbers[PCD_NUMBERS], uint8_t frame[PCD_MINOR_FRAME]);
 
 /* Takes a piece of the unpacked stream, of any length. The area has PCD_MAJOR_FRAME bytes, in which the caller does not write between calls.
  *

@@ -1,21 +1,22 @@
 """The labelling of an unpacked PCD stream: paper 01 from "From bytes to words" to "The tally and one call", in plain Python.
 
 It is a reference to read beside the paper, written from the paper's text and not from the library. Each step is said over a whole list, in
-the paper's order, and no tally goes from byte to byte:
+the paper's order, and no tally goes from byte to byte. A stream is the bytes and the rule that its words are voted by (paper 02, request 6):
 
-    label_bytes      the bytes         ->  a label for each byte, and the list of words and holes
+    label_bytes      the stream        ->  a label for each byte, and the list of words and holes
     cut_words        words and holes   ->  the hunted ones, the closed minor frames, and the part at the end
     classify         a closed frame    ->  good, damaged or unsynced
     find_runs        closed frames     ->  the runs 0, 1, .. of good frames: major frames, broken runs, the run being built
-    counts           the bytes         ->  the eighteen counts
-    kept             the bytes         ->  what the tally holds beside the counts
-    area_after       the bytes         ->  the lent area
-    calls            bytes, requests   ->  what each call answers
+    counts           the stream        ->  the eighteen counts
+    kept             the stream        ->  what the tally holds beside the counts
+    area_after       the stream        ->  the lent area
+    calls            stream, requests  ->  what each call answers
     shifts           the answers       ->  who is on duty as each byte is taken (paper 02, request 5)
-    paid             bytes, shifts     ->  the eight operators' counts
+    paid             stream, shifts    ->  the eight operators' counts
 
 The sync words stand at places 0 to 2 of a minor frame, as the book has it (docs/DECISIONS.md)."""
 from collections import namedtuple
+from functools import lru_cache
 
 SYNC = 0x16
 FILL = 0x32
@@ -27,7 +28,10 @@ MINORS = 128
 AREA = PLACES * MINORS
 HOLE = None
 OPERATORS = 8
+BY_BYTES, BY_BITS = 1, 2
 
+# The bytes, and the rule that words are voted by.
+Stream = namedtuple("Stream", "data rule")
 # A word or a hole, and how many bytes of the stream there are up to its last copy.
 Word = namedtuple("Word", "value end")
 # A closed minor frame: its 128 words and holes, good, damaged or unsynced, and the bytes up to its last copy.
@@ -47,7 +51,7 @@ COUNTS = "bytes fill stray voted split weak1 weak2 weak3 open hunted good damage
 
 # ---- From bytes to words
 
-def vote(copies):
+def by_bytes(copies):
     """The byte that at least two of three copies have; a hole where all three differ."""
     for byte in copies:
         if list(copies).count(byte) >= 2:
@@ -55,14 +59,25 @@ def vote(copies):
     return HOLE
 
 
+def by_bits(copies):
+    """Paper 02, request 6: each bit is the one that at least two copies have."""
+    columns = zip(*("{:08b}".format(byte) for byte in copies))
+    return int("".join(max("01", key=column.count) for column in columns), 2)
+
+
+def vote(copies, rule):
+    return by_bits(copies) if rule == BY_BITS else by_bytes(copies)
+
+
 def weak(copies):
-    """Paper 02, request 2: the number of the copy that the two others outvote; 0 where all agree, and where none is voted."""
-    outvoted = [number for number, byte in enumerate(copies, 1) if vote(copies) not in (HOLE, byte)]
+    """Paper 02, request 2: the number of the copy that the two others outvote; 0 where all agree, and where no two are equal."""
+    outvoted = [number for number, byte in enumerate(copies, 1) if by_bytes(copies) not in (HOLE, byte)]
     return outvoted[0] if outvoted else 0
 
 
-def label_bytes(data):
+def label_bytes(stream):
     """A label for each byte, and the words and holes that the closed groups give."""
+    data, rule = stream
     labels, words, at = [], [], 0
     while at < len(data):
         if data[at] == FILL:
@@ -77,7 +92,7 @@ def label_bytes(data):
             if len(group) < 4:
                 labels += ["open"] * len(group)
             else:
-                word = vote(group[1:])
+                word = vote(group[1:], rule)
                 labels += ["split" if word is HOLE else "voted"] * 4
                 words.append(Word(word, at))
     return labels, words
@@ -138,17 +153,18 @@ def find_runs(frames):
 
 # ---- The tally, the area and the calls
 
-def whole(data):
+@lru_cache(maxsize=8)
+def whole(stream):
     """All of the labelling: byte labels, words, the cut into frames, and the runs."""
-    labels, words = label_bytes(data)
+    labels, words = label_bytes(stream)
     cut = cut_words(words)
     return labels, words, cut, find_runs(cut.frames)
 
 
-def counts(data):
+def counts(stream):
     """The eighteen counts by name, with the papers' sums checked."""
-    labels, words, cut, runs = whole(data)
-    weak_copies = [weak(data[word.end - 3:word.end]) for word in words]
+    labels, words, cut, runs = whole(stream)
+    weak_copies = [weak(stream.data[word.end - 3:word.end]) for word in words]
     kinds = [frame.kind for frame in cut.frames]
     good = kinds.count("good")
 
@@ -156,7 +172,7 @@ def counts(data):
         return sum(run.length for run in runs if run.kind == kind)
 
     c = {
-        "bytes": len(data),
+        "bytes": len(stream.data),
         "fill": labels.count("fill"),
         "stray": labels.count("stray"),
         "voted": labels.count("voted") // 4,
@@ -180,12 +196,13 @@ def counts(data):
     assert c["bytes"] == c["fill"] + c["stray"] + 4 * c["voted"] + 4 * c["split"] + c["open"]
     assert c["voted"] + c["split"] == c["hunted"] + 128 * (good + c["damaged"] + c["unsynced"]) + c["placed"]
     assert good == 128 * c["majors"] + c["broken"] + c["loose"] + c["building"]
+    assert c["split"] == 0 or stream.rule == BY_BYTES
     return c
 
 
-def kept(data):
+def kept(stream):
     """What a tally holds beside the counts: hunting, match, hole, the first two copies, and the 128 bytes of the frame being filled."""
-    labels, words, cut, _ = whole(data)
+    labels, words, cut, _ = whole(stream)
     hunting = cut.since is not None
     match = 0
     if hunting:
@@ -196,7 +213,7 @@ def kept(data):
     for values in [f.values for f in cut.frames] + [[word.value for word in cut.part]]:
         frame[:len(values)] = [0 if value is HOLE else value for value in values]
     # A copy stays until the next group overwrites it.
-    opened = labels.count("open")
+    data, opened = stream.data, labels.count("open")
     groups = [data[word.end - 4:word.end] for word in words] + [data[len(data) - opened:]]
     first = [group[1] for group in groups if len(group) > 1]
     second = [group[2] for group in groups if len(group) > 2]
@@ -210,9 +227,9 @@ def kept(data):
     }
 
 
-def area_after(data, area=bytes(AREA)):
+def area_after(stream, area=bytes(AREA)):
     """The area after these bytes: each good frame of a run is put at 128 times its number, in order of closing."""
-    _, _, cut, runs = whole(data)
+    _, _, cut, runs = whole(stream)
     area = bytearray(area)
     for run in runs:
         for number in range(run.length):
@@ -220,24 +237,24 @@ def area_after(data, area=bytes(AREA)):
     return bytes(area)
 
 
-def major_ends(data):
+def major_ends(stream):
     """For each major frame, how many bytes there are up to the copy that closes the last of its minor frames."""
-    _, _, cut, runs = whole(data)
+    _, _, cut, runs = whole(stream)
     return [cut.frames[run.start + MINORS - 1].end for run in runs if run.kind == "major"]
 
 
-def major_frames(data):
+def major_frames(stream):
     """The 16,384 words of each major frame."""
-    _, _, cut, runs = whole(data)
+    _, _, cut, runs = whole(stream)
     return [bytes(value for frame in cut.frames[run.start:run.start + MINORS] for value in frame.values) for run in runs if run.kind == "major"]
 
 
-def calls(data, asked):
+def calls(stream, asked):
     """What each call answers, where the bytes come in these pieces and operators are named between them.
 
     A call takes its whole piece, or stops just after the byte that completes a major frame; the next call is then handed the rest of the
     piece, if there is any. A piece of no bytes is a call too. A call that names an operator takes no bytes, and is refused 14 above 7."""
-    ends = major_ends(data)
+    ends = major_ends(stream)
     answers, at = [], 0
     for request in asked:
         if isinstance(request, Change):
@@ -250,7 +267,7 @@ def calls(data, asked):
             at = stop if end is None else end
             if at == stop:
                 break
-    assert at == len(data)
+    assert at == len(stream.data)
     return answers
 
 
@@ -267,9 +284,9 @@ def shifts(answers):
     return stamps, duty
 
 
-def paid(data, stamps):
+def paid(stream, stamps):
     """For each operator the number of complete major frames whose last byte was taken on their duty."""
-    last = [stamps[end - 1] for end in major_ends(data)]
+    last = [stamps[end - 1] for end in major_ends(stream)]
     counts_of = [last.count(operator) for operator in range(OPERATORS)]
-    assert sum(counts_of) == counts(data)["majors"]
+    assert sum(counts_of) == counts(stream)["majors"]
     return counts_of

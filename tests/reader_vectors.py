@@ -6,43 +6,37 @@ It writes crates/reader_vectors/stdin (a record for each stream) and crates/read
 With --check it writes nothing and says whether the stored files are what it would write. With --list it writes the names of the streams.
 
 A record: the stream's length (4 bytes, first byte highest), eight piece lengths (4 bytes each, 0 for none), eight operators' numbers (8 bytes
-each), then the stream. The stream is read once for each piece length, from a fresh tally and a zeroed area. A call that stops at a completed
-major frame is followed by one with the rest of its piece. Before the first piece and after each piece there are three more calls: one with a
+each), the rule to vote by (8 bytes), then the stream. The stream is read once for each piece length, from a fresh tally of that rule and a zeroed
+area; a fresh tally of a rule that there is not is refused 15, and is that of rule 1. A call that stops at a completed major frame is followed by
+one with the rest of its piece. Before the first piece and after each piece there are three more calls: one with a
 piece of no bytes, which is taken, one with an area of 16,383 bytes, which is refused 2, and one that names an operator: the eight numbers in
 turn, of which those above 7 are refused 14. Each goes on from the tally that the last one gave back.
 
 For each piece length there are five lines or more:
-  stream of N bytes in pieces of P
+  stream of N bytes in pieces of P by rule R refused F
   paid at B area S         for each major frame: the bytes taken by then, and the area's checksum
   bytes .. building ..     the eighteen counts
-  paid to .. duty D        the eight operators' counts, and who is on duty at the end
+  paid to .. duty D rule R the eight operators' counts, who is on duty at the end, and the tally's rule
   hunting .. frame S       what the tally holds beside the counts
   area S calls .. answers S changed .. refused 2: .. refused 14: .. otherwise: ..
 `calls` counts the calls with a piece that are not refused, and `answers` is the checksum of what each says: bytes taken, complete, refusal.
 `changed` counts the changes of duty that are not refused."""
 import os
 import random
+import re
 import struct
 import sys
 
 sys.dont_write_bytecode = True
 import labelling
-from labelling import FILL, SYNC, SYNC_WORDS, Change, Changed, Piece, Took
-import stored
+from labelling import BY_BITS, BY_BYTES, FILL, SYNC, SYNC_WORDS, Change, Changed, Piece, Stream, Took
+from stored import checksum, keep
 
 CRATE = os.path.join("crates", "reader_vectors")
-MODULUS = 4294967291
 HOLE = labelling.HOLE
 
 
 # ---- What a record's lines say
-
-def checksum(numbers):
-    h = 0
-    for n in numbers:
-        h = (h * 31 + n) % MODULUS
-    return h
-
 
 def pieces(length, piece):
     return [min(piece, length - at) for at in range(0, length, piece)]
@@ -57,26 +51,28 @@ def asked(lengths, operators):
         yield Change(operators[turn % len(operators)])
 
 
-def lines(data, piece_lengths, operators):
-    whole = " ".join("%s %d" % item for item in labelling.counts(data).items())
-    k = labelling.kept(data)
+def lines(data, rule, piece_lengths, operators):
+    refused = 0 if rule in (BY_BYTES, BY_BITS) else 15
+    stream = Stream(data, BY_BYTES if refused else rule)
+    whole = " ".join("%s %d" % item for item in labelling.counts(stream).items())
+    k = labelling.kept(stream)
     rest = "hunting %d match %d hole %d copies %d %d frame %d" % (
         k["hunting"], k["match"], k["hole"], k["first"], k["second"], checksum(k["frame"]))
     paid = []
-    for end, frame in zip(labelling.major_ends(data), labelling.major_frames(data)):
-        assert labelling.area_after(data[:end]) == frame
+    for end, frame in zip(labelling.major_ends(stream), labelling.major_frames(stream)):
+        assert labelling.area_after(Stream(data[:end], stream.rule)) == frame
         paid.append("paid at %d area %d" % (end, checksum(frame)))
-    area = checksum(labelling.area_after(data))
+    area = checksum(labelling.area_after(stream))
     for piece in piece_lengths:
         lengths = pieces(len(data), piece)
-        answers = labelling.calls(data, asked(lengths, operators))
+        answers = labelling.calls(stream, asked(lengths, operators))
         stamps, duty = labelling.shifts(answers)
         taken = [answer for answer in answers if isinstance(answer, Took)]
         refusals = [answer.refusal for answer in answers if isinstance(answer, Changed)]
-        yield "stream of %d bytes in pieces of %d" % (len(data), piece)
+        yield "stream of %d bytes in pieces of %d by rule %d refused %d" % (len(data), piece, rule, refused)
         yield from paid
         yield whole
-        yield "paid to %s duty %d" % (" ".join(str(n) for n in labelling.paid(data, stamps)), duty)
+        yield "paid to %s duty %d rule %d" % (" ".join(str(n) for n in labelling.paid(stream, stamps)), duty, stream.rule)
         yield rest
         yield "area %d calls %d answers %d changed %d refused 2: %d refused 14: %d otherwise: 0" % (
             area, len(taken), checksum(n for took in taken for n in (took.bytes, int(took.complete), 0)),
@@ -99,6 +95,11 @@ def packed(words, rng, spacing=0, bad=0.0):
     """Words and holes as groups, each followed by FILL: always as many, or as many as spacing() says."""
     gap = spacing if callable(spacing) else lambda: spacing
     return b"".join(group(word, rng, bad) + bytes([FILL]) * gap() for word in words)
+
+
+def scattered(words, rng):
+    """Words as groups in which each copy is wrong in a bit of its own: no two are equal, and only their bits give the word."""
+    return b"".join(bytes([SYNC] + [word ^ 1 << bit for bit in rng.sample(range(8), 3)]) for word in words)
 
 
 def minor(number, rng, holes=(), sync=SYNC_WORDS, data=None):
@@ -187,6 +188,11 @@ def streams():
     yield "0 to 9, then a major frame at mixed spacings, one number more, and 0, 1", packed(
         reel(list(range(10)) + list(range(128)) + [128, 0, 1], rng), rng, lambda: rng.choice((0, 0, 0, 0, 1)), bad=0.2)
 
+    yield "votes by bits: 1 2 3, 0F F0 AA, 00 FF 55, 16 32 FA, 80 40 20", bytes.fromhex("16010203" "160FF0AA" "1600FF55" "161632FA" "16804020")
+    yield "a lead-in and good frames by bits alone", scattered(reel([0, 1, 2], rng), rng)
+    yield "a lead-in by bits alone, then two copies wrong in many groups", scattered(SYNC_WORDS, rng) + b"".join(
+        scattered([word], rng) if rng.randrange(3) == 0 else group(word, rng, 0.3) for word in reel([0, 1, 127, 0], rng, lead_in=False))
+
 
 def cuts(length):
     """The piece lengths that a stream is read in: cuts everywhere in a short one."""
@@ -203,13 +209,31 @@ def operators(rng):
     return [rng.choice(nobody) if rng.randrange(3) == 0 else rng.randrange(labelling.OPERATORS) for _ in range(8)]
 
 
+def rules(data):
+    """Both rules, but only the vote by bytes for a long stream whose copies all agree; and rules that there are not, for paper 01's example."""
+    if len(data) == 9:
+        return (BY_BYTES, BY_BITS, 0, 3, 256, 257, 258, (1 << 32) + 2, (1 << 64) - 1)
+    c = labelling.counts(Stream(data, BY_BYTES))
+    agree = c["split"] + c["weak1"] + c["weak2"] + c["weak3"] == 0
+    return (BY_BYTES,) if agree and len(data) > 60000 else (BY_BYTES, BY_BITS)
+
+
+def under_all_rules(data, chosen, named):
+    """The lines under each rule. A stream with no split group is read alike under both."""
+    text = {rule: list(lines(data, rule, chosen, named)) for rule in rules(data)}
+    if BY_BITS in text and labelling.counts(Stream(data, BY_BYTES))["split"] == 0:
+        assert text[BY_BYTES] == [re.sub(r"\brule %d\b" % BY_BITS, "rule %d" % BY_BYTES, line) for line in text[BY_BITS]]
+    return text
+
+
 def files():
     records, text = [], []
     rng = random.Random(286)
     for _, data in streams():
         chosen, named = cuts(len(data)), operators(rng)
-        records.append(struct.pack(">9I8Q", len(data), *(chosen + (0,) * (8 - len(chosen))), *named) + data)
-        text += lines(data, chosen, named)
+        for rule, of_rule in under_all_rules(data, chosen, named).items():
+            records.append(struct.pack(">9I9Q", len(data), *(chosen + (0,) * (8 - len(chosen))), *named, rule) + data)
+            text += of_rule
     payments = [[int(n) for n in line.split()[2:10]] for line in text if line.startswith("paid to")]
     assert all(sum(of_one) > 1 for of_one in zip(*payments)), "the seed leaves an operator without major frames"
     return {"stdin": b"".join(records), "stdout": "".join(line + "\n" for line in text).encode()}
@@ -221,7 +245,7 @@ def main():
             print("%7d  %s" % (len(data), name))
         return
     made = files()
-    stored.keep(CRATE, made)
+    keep(CRATE, made)
     print(made["stdout"].count(b"stream of "), "readings,", len(made["stdin"]), "bytes")
 
 

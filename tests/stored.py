@@ -1,6 +1,16 @@
-"""The files beside a program, its input and the output that it must write: stored, or with --check compared with what a script makes."""
+"""The files beside a program, its input and the output that it must write: stored, or with --check compared with what a script makes. And the sum
+that the programs print of what is too long to print."""
 import os
 import sys
+
+MODULUS = 4294967291
+
+
+def checksum(numbers):
+    h = 0
+    for n in numbers:
+        h = (h * 31 + n) % MODULUS
+    return h
 
 
 def keep(folder, files):

@@ -19,12 +19,11 @@ import os
 import random
 import struct
 import sys
-import stored
+from stored import checksum, keep
 
 sys.dont_write_bytecode = True
 
 CRATE = os.path.join("crates", "writer_vectors")
-MODULUS = 4294967291
 
 SYNC = 0x16
 FILL = 0x32
@@ -68,13 +67,6 @@ def minor_frame_refusal(spacing, frame, room):
 
 
 # ---- What a record's lines say
-
-def checksum(numbers):
-    h = 0
-    for n in numbers:
-        h = (h * 31 + n) % MODULUS
-    return h
-
 
 def answered(answer, spacing, data, room, short):
     """The end of a call's line: a refusal writes nothing. A short output is shown too."""
@@ -223,7 +215,7 @@ def files():
 
 def main():
     made = files()
-    stored.keep(CRATE, made)
+    keep(CRATE, made)
     print(made["stdout"].count(b"answer"), "calls,", made["stdout"].count(b"pieces of"), "readings,", len(made["stdin"]), "bytes")
 
 

@@ -38,3 +38,6 @@ pub const LIST_TOO_LONG: u8 = 12;
 
 // The operator's number is above 7.
 pub const NO_SUCH_OPERATOR: u8 = 14;
+
+// A fresh tally is asked for with another rule than 1 and 2. This is tested before all others.
+pub const NO_SUCH_RULE: u8 = 15;

@@ -4,23 +4,23 @@ use mathlib.Core.List.{List, [], _∷_, _++_, append-nil}
 use Prim.Native.Nat.{ℕ}
 use Rattle.base.proofs.Lists.{concatMap-append}
 use Rattle.labelling.specs.Words.{Vote}
-use Rattle.labelling.specs.Calls.{Call, takeRefusal, answer, taken, pays, joined, paid, Handed, done, accepted}
+use Rattle.labelling.specs.Calls.{TakeCall, takeRefusal, answer, taken, pays, Call, takes, paidBy, joined, paid, Handed, done, accepted}
 
 module _ (vote : Vote) where
   pub paid-append : (cs ds : List Call) → paid vote (cs ++ ds) ≡ paid vote cs ++ paid vote ds
   unfolding paid
-  paid-append cs ds = concatMap-append (pays vote) cs ds
+  paid-append cs ds = concatMap-append (paidBy vote) cs ds
 
   -- ---- one call more
 
-  pub handed-one : (c : Call) → takeRefusal c ≡ 0 → Handed vote (c .tally) (c .area) (c ∷ []) (answer vote c .tally) (answer vote c .area)
+  pub handed-one : (c : TakeCall) → takeRefusal c ≡ 0 → Handed vote (c .tally) (c .area) (takes c ∷ []) (answer vote c .tally) (answer vote c .area)
   handed-one c e = accepted c e done
 
-  pub joined-one : (c : Call) → joined vote (c ∷ []) ≡ taken vote c
+  pub joined-one : (c : TakeCall) → joined vote (takes c ∷ []) ≡ taken vote c
   unfolding joined
   joined-one c = append-nil (taken vote c)
 
-  pub paid-one : (c : Call) → paid vote (c ∷ []) ≡ pays vote c
+  pub paid-one : (c : TakeCall) → paid vote (takes c ∷ []) ≡ pays vote c
   unfolding paid
   paid-one c = append-nil (pays vote c)
 

@@ -3,22 +3,24 @@
 -- Assumes nothing.
 use mathlib.Core.Path.{_≡_, refl, sym, ap, _∙_}
 use mathlib.Core.Bool.{Bool, true, false, cond}
-use mathlib.Core.List.{List, [], _∷_, _++_}
+use mathlib.Core.List.{List, [], _∷_, _++_, map-append}
 use Prim.Native.Nat.{ℕ, zero, suc, _+_, _-_, _≤_, _<_}
 use native.Mathlib.Omega.{arith}
 use lib.ListN.{length, take, drop, length-append, length-drop}
 use lib.Seq.{take-add}
 use Rattle.base.specs.Lists.{one}
+use Rattle.labelling.specs.declared.Operators.{Operators}
 use Rattle.labelling.specs.declared.Tally.{Tally}
 use Rattle.labelling.specs.Words.{byteVote}
-use Rattle.labelling.specs.Calls.{Call, takeRefusal, Answer, answer, taken, pays, joined, paid, Handed, done, refused}
+use Rattle.labelling.specs.Operators.{booked}
+use Rattle.labelling.specs.Calls.{TakeCall, takeRefusal, Answer, answer, taken, pays, takes, joined, paid, Handed, done, refused}
 use Rattle.labelling.proofs.Reaching.{handed-append, joined-append}
-use Rattle.labelling.proofs.CallLaws.{Passed, passed, no-refusal, refused-answer, answer-ordered, accepted-bytes}
+use Rattle.labelling.proofs.CallLaws.{Passed, passed, no-refusal, refused-answer, answer-ordered, accepted-bytes, accepted-operators}
 use Rattle.reader.specs.declared.Taken.{Taken}
 use Rattle.reader.specs.Shapes.{callOf, TakePromise}
 use Rattle.reader.proofs.Progress.{moves-on}
 use Rattle.feeding.specs.declared.Fed.{Fed}
-use Rattle.feeding.specs.Promise.{FeedPromise, rest, after, NextPromise}
+use Rattle.feeding.specs.Promise.{asCalls, FeedPromise, rest, after, NextPromise}
 use Rattle.feeding.proofs.CallLists.{paid-append, handed-one, joined-one, paid-one, joined-none, paid-none}
 use Rattle.feeding.proofs.Laws.{given, withheld}
 
@@ -51,7 +53,7 @@ module _ (f : Fed) (s old new : List ℕ) (r : Taken) (p : TakePromise (rest f s
 -- ---- what is read so far
 
 -- a call pays one frame where it completes one, and none otherwise
-pays-one : (c : Call) → length (pays byteVote c) ≡ one (answer byteVote c .complete)
+pays-one : (c : TakeCall) → length (pays byteVote c) ≡ one (answer byteVote c .complete)
 unfolding pays
 pays-one c = go (answer byteVote c .complete)
   where
@@ -66,10 +68,11 @@ begun t = record { refusal = 0; taken = 0; paid = 0; tally = t }
 pub record Reading (t : Tally) (s old : List ℕ) (f : Fed) (a : List ℕ) : Type 0 where
   pub within : f .taken ≤ length s
   pub few : f .paid ≤ f .taken
-  pub calls : List Call
-  pub handed : Handed byteVote t old calls (f .tally) a
-  pub joined-is : joined byteVote calls ≡ take (f .taken) s
-  pub paid-is : f .paid ≡ length (paid byteVote calls)
+  pub calls : List TakeCall
+  pub handed : Handed byteVote t old (asCalls calls) (f .tally) a
+  pub joined-is : joined byteVote (asCalls calls) ≡ take (f .taken) s
+  pub paid-is : f .paid ≡ length (paid byteVote (asCalls calls))
+  pub duty-is : f .tally .operators .duty ≡ t .operators .duty
   -- the next call is refused as the first was, and the first is the only one that is
   pub same-refusal : takeRefusal (rest f s a) ≡ takeRefusal (callOf t s old)
   pub untouched : (takeRefusal (callOf t s old) ≡ 0 → ⊥) → (f ≡ begun t) × (a ≡ old)
@@ -82,13 +85,14 @@ begins t s old = record {
   handed = done;
   joined-is = joined-none byteVote;
   paid-is = ap length (sym (paid-none byteVote));
+  duty-is = refl;
   same-refusal = refl;
   untouched = λ h. (refl, refl);
 }
 
 -- an accepted call refuses none on the rest
 module _ (f : Fed) (s a : List ℕ) (e : takeRefusal (rest f s a) ≡ 0) (within : f .taken ≤ length s) where
-  abbrev call : Call
+  abbrev call : TakeCall
   call = rest f s a
 
   checked : Passed call
@@ -111,14 +115,14 @@ refusedWith t m = record { refusal = m; taken = 0; paid = 0; tally = t }
 
 -- the only call is refused
 module _ (t : Tally) (s old : List ℕ) (m : ℕ) (e : takeRefusal (callOf t s old) ≡ suc m) where
-  abbrev whole : Call
+  abbrev whole : TakeCall
   whole = callOf t s old
 
-  takes-nothing : joined byteVote (whole ∷ []) ≡ []
+  takes-nothing : joined byteVote (takes whole ∷ []) ≡ []
   unfolding taken
   takes-nothing = rw (joined-one, refused-answer byteVote whole m e)
 
-  pays-nothing : paid byteVote (whole ∷ []) ≡ []
+  pays-nothing : paid byteVote (takes whole ∷ []) ≡ []
   unfolding pays
   pays-nothing = rw (paid-one, refused-answer byteVote whole m e)
 
@@ -128,9 +132,10 @@ module _ (t : Tally) (s old : List ℕ) (m : ℕ) (e : takeRefusal (callOf t s o
     refused = λ n h. (rw h, refl);
     taken-is = withheld (suc m) (length s) (λ z. omega arith);
     calls = whole ∷ [];
-    handed = refused whole m e done;
+    handed = refused (takes whole) m e done;
     joined-is = takes-nothing;
     paid-is = ap length (sym pays-nothing);
+    duty-is = refl;
   }
 
 module _ {t : Tally} {s old : List ℕ} {f r : Fed} {a b : List ℕ} (i : Reading t s old f a) (n : NextPromise f s a r b) where
@@ -141,21 +146,29 @@ module _ {t : Tally} {s old : List ℕ} {f r : Fed} {a b : List ℕ} (i : Readin
     accepts : takeRefusal (rest f s a) ≡ 0
     accepts = i .same-refusal ∙ sym refusal-same ∙ z
 
-    more-joined : joined byteVote (i .calls ++ rest f s a ∷ []) ≡ take (r .taken) s
-    unfolding taken
-    more-joined = rw (n .next-is, joined-append, joined-one, i .joined-is, take-add)
+    -- one call more in the list
+    more-calls : asCalls (i .calls ++ rest f s a ∷ []) ≡ asCalls (i .calls) ++ takes (rest f s a) ∷ []
+    more-calls = rw map-append
 
-    more-paid : r .paid ≡ length (paid byteVote (i .calls ++ rest f s a ∷ []))
-    more-paid = rw (n .next-is, paid-append, paid-one, length-append, ← i .paid-is, pays-one)
+    more-joined : joined byteVote (asCalls (i .calls ++ rest f s a ∷ [])) ≡ take (r .taken) s
+    unfolding taken
+    more-joined = rw (more-calls, n .next-is, joined-append, joined-one, i .joined-is, take-add)
+
+    more-paid : r .paid ≡ length (paid byteVote (asCalls (i .calls ++ rest f s a ∷ [])))
+    more-paid = rw (more-calls, n .next-is, paid-append, paid-one, length-append, ← i .paid-is, pays-one)
+
+    same-duty : r .tally .operators .duty ≡ t .operators .duty
+    same-duty = rw (n .next-is) (ap (λ (o : Operators). o .duty) (accepted-operators byteVote (rest f s a) accepts) ∙ i .duty-is)
 
     pub goes-on : length b ≡ length a → Reading t s old r b
     goes-on same = record {
       within = n .within;
       few = n .few;
       calls = i .calls ++ rest f s a ∷ [];
-      handed = rw (n .next-is, n .area-is) (handed-append byteVote (i .handed) (handed-one byteVote (rest f s a) accepts));
+      handed = rw (more-calls, n .next-is, n .area-is) (handed-append byteVote (i .handed) (handed-one byteVote (rest f s a) accepts));
       joined-is = more-joined;
       paid-is = more-paid;
+      duty-is = same-duty;
       same-refusal = rw (n .next-is) (still-accepts f s a accepts (i .within) b same (rw (n .next-is) at (n .within))) ∙ sym (sym refusal-same ∙ z);
       untouched = λ h. absurd (h (sym refusal-same ∙ z));
     }
@@ -176,6 +189,7 @@ module _ {t : Tally} {s old : List ℕ} {f r : Fed} {a b : List ℕ} (i : Readin
           handed = j .handed;
           joined-is = j .joined-is;
           paid-is = j .paid-is;
+          duty-is = j .duty-is;
         }
 
   -- the call is refused: it is the first

@@ -10,7 +10,8 @@ use Rattle.base.specs.Lists.{sumBy}
 use Rattle.base.proofs.Lists.{spelled}
 use Rattle.labelling.specs.declared.Tally.{Tally}
 use Rattle.labelling.specs.Machine.{stateOf}
-use Rattle.labelling.specs.Order.{within, every, groupsBounded, framingBounded, framingModes, runsBounded, sumsHold, fewWeak, operatorsBounded, paidSum, stateInOrder, inOrder}
+use Rattle.labelling.specs.Order.{within, every, groupsBounded, framingBounded, framingModes, runsBounded, sumsHold, fewWeak, operatorsBounded, paidSum}
+use Rattle.labelling.specs.Order.{ruleInOrder, stateInOrder, inOrder}
 use Rattle.order.proofs.Rooms.{bounded}
 
 -- ---- eight counts
@@ -53,14 +54,15 @@ module _ (t : Tally) where
       go : (b o : Bool) → (b && o) ≡ false
           → false
           ≡ (b && framingModes (t .framing) && sumsHold (stateOf t) && fewWeak (t .groups) && (not (t .framing .hunting) || eqb (t .runs .building) 0)
-          && (o && paidSum (t .runs .majors) (t .operators)))
+          && (o && paidSum (t .runs .majors) (t .operators)) && ruleInOrder (t .rule) (t .groups .split))
       go true true e = absurd (true≢false e)
       go true false e = rw and-false
       go false o e = refl
 
-  pub within-bounds : {m s w p : Bool} → allBounded ≡ true → m ≡ framingModes (t .framing) → s ≡ sumsHold (stateOf t) → w ≡ fewWeak (t .groups)
-      → p ≡ paidSum (t .runs .majors) (t .operators) → (m && s && w && (not (t .framing .hunting) || eqb (t .runs .building) 0) && p) ≡ inOrder t
+  pub within-bounds : {m s w p r : Bool} → allBounded ≡ true → m ≡ framingModes (t .framing) → s ≡ sumsHold (stateOf t) → w ≡ fewWeak (t .groups)
+      → p ≡ paidSum (t .runs .majors) (t .operators) → r ≡ ruleInOrder (t .rule) (t .groups .split)
+      → (m && s && w && (not (t .framing .hunting) || eqb (t .runs .building) 0) && p && r) ≡ inOrder t
   unfolding inOrder stateInOrder
-  within-bounds e em es ew ep =
+  within-bounds e em es ew ep er =
       let both = both-hold (bounded (stateOf t)) (operatorsBounded (t .operators)) e in
-      rw (both .0, both .1, em, es, ew, ep)
+      rw (both .0, both .1, em, es, ew, ep, er)

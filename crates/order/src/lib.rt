@@ -1,9 +1,9 @@
-// Whether a tally is in order (paper 01, "The tally and one call"; paper 02, requests 2 and 5). The tests are joined by `&` and `|`, which do not branch, in the order of
-// the definition.
+// Whether a tally is in order (paper 01, "The tally and one call"; paper 02, requests 2, 5 and 6). The tests are joined by `&` and `|`, which do not
+// branch, in the order of the definition.
 ghost use mathlib.Core.Path.{_≡_};
 ghost use Rattle.labelling.specs.Machine.{stateOf};
 ghost use Rattle.labelling.specs.Order.{weakBounded, groupsBounded, fewWeak, framingBounded, framingModes, runsBounded, bytesSum, wordsSum, framesSum, sumsHold};
-ghost use Rattle.labelling.specs.Order.{operatorsBounded, paidSum, inOrder};
+ghost use Rattle.labelling.specs.Order.{operatorsBounded, paidSum, ruleInOrder, inOrder};
 ghost use Rattle.order.specs.Room.{GroupsRoom, FramingRoom, RunsRoom, StateRoom, OperatorsRoom};
 use labelling::Framing;
 use labelling::Groups;
@@ -119,6 +119,13 @@ fn sums(t: Tally) -> bool
     bytes_sum(t.groups) & words_sum(words, t.framing) & frames_sum(t.framing.good, t.runs)
 }
 
+// The rule is 1 or 2, and under rule 2 there is no split.
+fn rule_in_order(rule: u64, split: u64) -> bool
+    ensures { λ r. ⌜ r ≡ ruleInOrder rule split ⌝ }
+{
+    ((rule == 1) | (rule == 2)) & ((rule != 2) | (split == 0))
+}
+
 pub fn in_order(t: Tally) -> bool
     ensures { λ r. ⌜ r ≡ inOrder t ⌝ }
 {
@@ -134,4 +141,5 @@ pub fn in_order(t: Tally) -> bool
         & few_weak(t.groups)
         & (!t.framing.hunting | (t.runs.building == 0))
         & paid_sum(t.runs.majors, t.operators)
+        & rule_in_order(t.rule, t.groups.split)
 }

@@ -1,5 +1,6 @@
 // Reads an unpacked PCD stream in pieces: voted words, minor frames, major frames, and a tally of every byte (paper 01, "From bytes to
-// words" to "The tally and one call"). The claim about every list of calls is the contract of `fresh`.
+// words" to "The tally and one call"; paper 02, requests 5 and 6). The claim about every list of calls is the contract of `fresh`.
+mod duty;
 mod run;
 mod stretch;
 
@@ -8,18 +9,21 @@ ghost use mathlib.Core.Bool.{true};
 ghost use Prim.Native.Nat.{_+_, _≤_, _^_};
 ghost use lib.ListN.{length};
 ghost use Rattle.base.specs.Format.{majorFrame};
-ghost use Rattle.labelling.specs.Words.{byteVote};
 ghost use Rattle.labelling.specs.Once.{FreshPromise};
 ghost use Rattle.labelling.specs.Order.{inOrder};
-ghost use Rattle.labelling.specs.Machine.{tallyOf};
+ghost use Rattle.labelling.specs.Machine.{tallyOf, fresh as freshOf};
 ghost use Rattle.plain_steps.specs.Shapes.{stateWith};
 ghost use Rattle.reader.specs.Shapes.{callOf, refusedWith, TakePromise};
 use base::format::MAJOR_FRAME;
+use base::refusal::NO_SUCH_RULE;
 use base::refusal::NOT_IN_ORDER;
 use base::refusal::TOO_MANY_BYTES;
 use base::refusal::WRONG_LENGTH;
+pub use duty::DutyChanged;
+pub use duty::change_duty;
 use labelling::Framing;
 use labelling::Groups;
+use labelling::Operators;
 use labelling::Runs;
 use labelling::Tally;
 use labelling::Weak;
@@ -29,9 +33,6 @@ use plain_steps::Layers;
 pub use plain_steps::Voted;
 pub use plain_steps::vote;
 pub use plain_steps::vote_bits;
-
-// The rule of the vote.
-const BY_BYTES: u64 = 1;
 
 // The answer of a call.
 pub struct Taken {
@@ -44,10 +45,33 @@ pub struct Taken {
     pub tally: Tally,
 }
 
-// A tally of no bytes. What it promises is demand 3: over every list of calls of `take` that begins with it, each major frame of the
-// bytes is paid exactly once, and each count is that of the labelling of the bytes.
-pub fn fresh() -> Tally
-    ensures { λ r. ⌜ FreshPromise byteVote r ⌝ }
+// The answer where a fresh tally is asked for.
+pub struct FreshTally {
+    // 0, or the number of the refusal: there is no such rule. The tally is then that of rule 1.
+    pub refusal: u8,
+    pub tally: Tally,
+}
+
+// A tally of no bytes, with operator 0 on duty, that votes by this rule: 1, by bytes, or 2, by bits. What it promises is demand 3: over every list
+// of calls of `take` and `change_duty` that begins with it, each major frame of the bytes is paid exactly once, to whoever was on duty, and each
+// count is that of the labelling of the bytes.
+pub fn fresh(rule: u64) -> FreshTally
+    ensures { λ r. ⌜ FreshPromise rule (r .refusal) (r .tally) ⌝ }
+{
+    if (rule == 1) | (rule == 2) {
+        return FreshTally {
+            refusal: 0,
+            tally: blank(rule),
+        };
+    }
+    FreshTally {
+        refusal: NO_SUCH_RULE,
+        tally: blank(1),
+    }
+}
+
+fn blank(rule: u64) -> Tally
+    ensures { λ r. ⌜ r ≡ freshOf rule ⌝ }
 {
     Tally {
         groups: Groups {
@@ -81,6 +105,11 @@ pub fn fresh() -> Tally
             loose: 0,
             building: 0,
         },
+        operators: Operators {
+            paid: [0u64; 8],
+            duty: 0,
+        },
+        rule: rule,
         frame: [0u8; 128],
     }
 }
@@ -113,7 +142,7 @@ fn refused(t: Tally, number: u8) -> Taken
     }
 }
 
-// The tally is taken apart once a call.
+// The tally is taken apart once a call, and a payment is booked once.
 fn accepted(t: Tally, piece: &[u8], area: &mut [u8]) -> Taken
     requires { ⌜ (inOrder t ≡ true) × (length (now area) ≡ majorFrame) × (t .groups .bytes + length (now piece) ≤ 2 ^ 40) ⌝ }
     ensures { λ r. ⌜ TakePromise (callOf t (now (piece .entry)) (now (area .entry))) r (now (area .exit)) ⌝ }
@@ -127,9 +156,10 @@ fn accepted(t: Tally, piece: &[u8], area: &mut [u8]) -> Taken
         framing: framing,
         runs: runs,
     };
-    let r = run::run(BY_BYTES, layers, piece, &mut frame, area);
+    let r = run::run(t.rule, layers, piece, &mut frame, area);
     let left = r.layers;
-    let tally = together(left, frame);
+    let operators = duty::booked(t.operators, r.complete);
+    let tally = together(left, operators, t.rule, frame);
     Taken {
         refusal: 0,
         taken: r.at,
@@ -138,8 +168,8 @@ fn accepted(t: Tally, piece: &[u8], area: &mut [u8]) -> Taken
     }
 }
 
-fn together(l: Layers, frame: [u8; 128]) -> Tally
-    ensures { λ r. ⌜ r ≡ tallyOf (stateWith l frame) ⌝ }
+fn together(l: Layers, operators: Operators, rule: u64, frame: [u8; 128]) -> Tally
+    ensures { λ r. ⌜ r ≡ tallyOf rule operators (stateWith l frame) ⌝ }
 {
     let groups = l.groups;
     let framing = l.framing;
@@ -148,6 +178,8 @@ fn together(l: Layers, frame: [u8; 128]) -> Tally
         groups: groups,
         framing: framing,
         runs: runs,
+        operators: operators,
+        rule: rule,
         frame: frame,
     }
 }

@@ -70,13 +70,17 @@ paid-sum-requires c κs =
     let modes = counted .before .before in
     in-operators (modes .before)
 
+rule-in-order-requires : tie.Need-rule-in-order-requires
+rule-in-order-requires c κs = search needs
+
 returns-2 : tie.Need-returns-2
 returns-2 c =
-    let counted = c .before .before .before in
+    let paid = c .before in
+    let counted = paid .before .before .before in
     let summed = counted .before in
     let modes = summed .before in
     within-bounds (t (modes .before .before)) (held (modes .before)) (modes .framing-modes .ensures) (summed .sums .ensures) (counted .few-weak .ensures)
-    (c .paid-sum .ensures)
+    (paid .paid-sum .ensures) (c .rule-in-order .ensures)
 
 pub in-order-spec : {M : Type 1} → statement M
 in-order-spec =
@@ -91,4 +95,5 @@ in-order-spec =
     sums-requires
     few-weak-requires
     paid-sum-requires
+    rule-in-order-requires
     returns-2)
