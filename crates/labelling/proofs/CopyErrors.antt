@@ -137,14 +137,14 @@ module _ {vote : Vote} (m : Majority vote) where
       let more = differences-append (copyIn n g) (copyIn n h) (concatMap (copyIn n) gs) (concatMap (copyIn n) hs) (as-many n e) in
       omega (arith, r g h e, rises-over n r p, more)
 
-  pub record WeakRise (bs cs : List ℕ) : Type 0 where
+  pub record WeaklyMore (bs cs : List ℕ) : Type 0 where
     pub first : weakly vote 1 cs ≡ weakly vote 1 bs + changedAt 1 bs cs
     pub second : weakly vote 2 cs ≡ weakly vote 2 bs + changedAt 2 bs cs
     pub third : weakly vote 3 cs ≡ weakly vote 3 bs + changedAt 3 bs cs
 
-  pub weak-rise : {bs cs : List ℕ} → CopyErrors bs cs → WeakRise bs cs
+  pub weakly-more : {bs cs : List ℕ} → CopyErrors bs cs → WeaklyMore bs cs
   unfolding weakly copiesAt
-  weak-rise s = record {
+  weakly-more s = record {
     first = rises-over 1 (λ g h e. group-rises e .first) (in-groups s);
     second = rises-over 2 (λ g h e. group-rises e .second) (in-groups s);
     third = rises-over 3 (λ g h e. group-rises e .third) (in-groups s);

@@ -19,7 +19,7 @@ use Rattle.labelling.specs.Order.{isRule}
 use Rattle.labelling.specs.Calls.{TakeCall, takeRefusal, answer, taken, pays, dutyAnswer, Call, takes, changes, takenBy, paidBy, joined, paid, stamped}
 use Rattle.labelling.specs.Calls.{Handed, done, accepted, changed}
 use Rattle.labelling.specs.SideBySide.{ends, refused-here, refused-there, both-take, both-change, SameCuts, SameDuties}
-use Rattle.labelling.specs.CopyErrors.{CopyErrors, changedAt, SameButCopies, SameAnswer, SameAnswers, Unharmed}
+use Rattle.labelling.specs.CopyErrors.{CopyErrors, SameButCopies, SameAnswer, SameAnswers, Unharmed}
 use Rattle.labelling.specs.Once.{majorsIn, Pays, PaysAt, Each, Once}
 use Rattle.labelling.proofs.Votes.{majority}
 use Rattle.labelling.proofs.SideBySide.{joined-refused, handed-refused, took, duty-changed, duties-append}
@@ -27,7 +27,7 @@ use Rattle.labelling.proofs.Shifts.{joined-stamped}
 use Rattle.labelling.proofs.Reaching.{handed-append}
 use Rattle.labelling.proofs.Demand.{once}
 use Rattle.labelling.proofs.SameWords.{SameWords, same-front, same-length, same-majors}
-use Rattle.labelling.proofs.CopyErrors.{words-stay, weak-rise, first-kept, second-kept}
+use Rattle.labelling.proofs.CopyErrors.{words-stay, weakly-more, first-kept, second-kept}
 use Rattle.labelling.proofs.SameLeft.{same-but-copies, area-same, paid-same}
 
 -- ---- call by call
@@ -238,17 +238,9 @@ module _ (rule : ℕ) (is-rule : isRule rule ≡ true) (a₀ : List ℕ) (whole 
       let s = words-stay m e in
       let o = once rule is-rule a₀ whole cs t a h in
       let o′ = once rule is-rule a₀ whole ds u b g in
-      let weak = weak-rise m e in
-      let c = o .counts in
-      let c′ = o′ .counts in
-      let w = t .groups .weak in
-      let w′ = u .groups .weak in
-      let first : w′ .first ≡ w .first + changedAt 1 (joined cs) (joined ds) = c′ .weak1-is ∙ weak .first ∙ rw (c .weak1-is) in
-      let second : w′ .second ≡ w .second + changedAt 2 (joined cs) (joined ds) = c′ .weak2-is ∙ weak .second ∙ rw (c .weak2-is) in
-      let third : w′ .third ≡ w .third + changedAt 3 (joined cs) (joined ds) = c′ .weak3-is ∙ weak .third ∙ rw (c .weak3-is) in
       record {
         tally-same = same-but-copies o o′ s d;
-        weak-is = rw (← first, ← second, ← third);
+        weak-rise = omega (arith, o .counts, o′ .counts, weakly-more m e);
         first-same = λ q. o′ .rest .first-is ∙ first-kept e q ∙ sym (o .rest .first-is);
         second-same = λ q. o′ .rest .second-is ∙ second-kept e q ∙ sym (o .rest .second-is);
         area-same = area-same o o′ s;

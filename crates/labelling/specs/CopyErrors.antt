@@ -101,9 +101,11 @@ withCopies w first second t = record {
 abbrev pub SameButCopies : Tally → Tally → Type 0
 SameButCopies t u = u ≡ withCopies (u .groups .weak) (u .groups .first) (u .groups .second) t
 
--- the weak counts w, each risen by the copies truly changed at its copy
-abbrev pub risen : List ℕ → List ℕ → Weak → Weak
-risen bs cs w = record { first = w .first + changedAt 1 bs cs; second = w .second + changedAt 2 bs cs; third = w .third + changedAt 3 bs cs }
+-- from the stream bs to cs the weak counts w become w′: each rises by the copies truly changed at its copy
+pub record WeakRise (bs cs : List ℕ) (w w′ : Weak) : Type 0 where
+  pub weak1-is : w′ .first ≡ w .first + changedAt 1 bs cs
+  pub weak2-is : w′ .second ≡ w .second + changedAt 2 bs cs
+  pub weak3-is : w′ .third ≡ w .third + changedAt 3 bs cs
 
 -- the calls c and d take as many bytes, both complete a major frame or neither does, and they leave the same area: so one pays what the other pays
 pub record SameAnswer (c d : TakeCall) : Type 0 where
@@ -118,7 +120,7 @@ SameAnswers cs ds = SideBySide SameAnswer (λ c d. SameButCopies (dutyAnswer c) 
 -- the calls cs over a stream leave t and a, and ds over the stream with copy errors leave u and b
 pub record Unharmed (cs ds : List Call) (t u : Tally) (a b : List ℕ) : Type 0 where
   pub tally-same : SameButCopies t u
-  pub weak-is : u .groups .weak ≡ risen (joined cs) (joined ds) (t .groups .weak)
+  pub weak-rise : WeakRise (joined cs) (joined ds) (t .groups .weak) (u .groups .weak)
   -- a kept copy can differ only where that copy of the last closed group has changed
   pub first-same : latest 0 (copiesAt 1 (joined ds)) ≡ latest 0 (copiesAt 1 (joined cs)) → u .groups .first ≡ t .groups .first
   pub second-same : latest 0 (copiesAt 2 (joined ds)) ≡ latest 0 (copiesAt 2 (joined cs)) → u .groups .second ≡ t .groups .second
