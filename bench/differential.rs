@@ -71,8 +71,10 @@ struct Seen {
     at_limit: u64,
     refused: [u64; 4],
     no_tally: u64,
+    // Tallies that were changed, and in order after all.
+    mended: u64,
     no_rule: u64,
-    // Changes of duty, those that were refused by number, and those between the first and the last byte of a major frame.
+    // Changes of duty, those that might be refused by number, and those between the first and the last byte of a major frame.
     changes: u64,
     refused_changes: [u64; 15],
     within_a_major: u64,
@@ -118,6 +120,7 @@ impl Seen {
             ("to exactly 2^40 bytes", self.at_limit),
             ("refused 1", self.refused[1]),
             ("so for numbers that are no tally's", self.no_tally),
+            ("changed and in order", self.mended),
             ("refused 2", self.refused[2]),
             ("refused 3", self.refused[3]),
             ("refused 15", self.no_rule),
@@ -231,10 +234,10 @@ impl Trial {
         let longest = self.longest_piece();
         loop {
             if self.r.one_in(4) {
-                self.refused_call(&s, at, seen)?;
+                self.spoilt_call(&s, at, seen)?;
             }
             if self.r.one_in(8) {
-                self.refused_change(&s, at, seen)?;
+                self.spoilt_change(&s, at, seen)?;
             }
             if self.r.one_in(8) {
                 self.change_duty(&mut s, &mut shifts, seen)?;
@@ -305,9 +308,8 @@ impl Trial {
         held(area == left, "the area", at)
     }
 
-    // A call that must be refused: nothing is taken, and the tally and an area of any length stay.
-    fn refused_call(&mut self, s: &State, at: usize, seen: &mut Seen) -> Result<(), String> {
-        let n = self.r.below(40).min(self.bytes.len() - at);
+    // A tally and the length of an area that are likely to be refused, with a piece of n bytes.
+    fn spoilt(&mut self, s: &State, n: usize) -> Result<(State, usize), String> {
         let mut before = *s;
         let mut length = AREA;
         let kinds = 1 + self.r.below(15);
@@ -328,21 +330,35 @@ impl Trial {
                 _ => disorder::no_tally(&mut self.r, &mut before),
             }
         }
+        Ok((before, length))
+    }
+
+    // A call that is likely to be refused: nothing is taken then, and the tally and an area of any length stay. Where the tally is in order after
+    // all, the call does as the reader that goes a byte at a time.
+    fn spoilt_call(&mut self, s: &State, at: usize, seen: &mut Seen) -> Result<(), String> {
+        let n = self.r.below(40).min(self.bytes.len() - at);
+        let piece = self.bytes[at..at + n].to_vec();
+        let (before, length) = self.spoilt(s, n)?;
         let tally = before.tally();
         let number = plain::refusal(tally.as_ref(), n, length);
-        if number == 0 {
-            return Ok(());
+        let mut area = vec![self.r.byte(); length];
+        let (mut s_after, mut area_after, mut answer_after) = (before, area.clone(), (u64::MAX, u64::MAX));
+        match tally {
+            Some(mut t) if number == 0 => {
+                let (taken, complete) = bytewise::take(&mut t, &piece, &mut area_after);
+                s_after = State::of(&t);
+                answer_after = (taken as u64, complete as u64);
+                seen.mended += 1;
+            }
+            _ => seen.refused[number as usize] += 1,
         }
-        seen.refused[number as usize] += 1;
         seen.no_tally += tally.is_none() as u64;
         let mut s = before;
-        let mut area = vec![self.r.byte(); length];
-        let kept = area.clone();
-        let answer = bridge::take(&mut s, &self.bytes[at..at + n], &mut area);
+        let answer = bridge::take(&mut s, &piece, &mut area);
         held(answer.refusal == number, "the number of a refusal", at)?;
-        held((answer.taken, answer.complete) == (u64::MAX, u64::MAX), "the place of a refused call's answer", at)?;
-        held(s == before, "the tally of a refused call", at)?;
-        held(area == kept, "the area of a refused call", at)
+        held((answer.taken, answer.complete) == answer_after, "the answer to a spoilt tally", at)?;
+        held(s == s_after, "the tally after a call with a spoilt one", at)?;
+        held(area == area_after, "the area after a call with a spoilt tally", at)
     }
 
     // A call that puts an operator on duty, whoever is: nothing else changes.
@@ -359,8 +375,8 @@ impl Trial {
         Ok(())
     }
 
-    // A change of duty that must be refused: the tally stays.
-    fn refused_change(&mut self, s: &State, at: usize, seen: &mut Seen) -> Result<(), String> {
+    // A change of duty that is likely to be refused: the tally stays then.
+    fn spoilt_change(&mut self, s: &State, at: usize, seen: &mut Seen) -> Result<(), String> {
         const NAMED: [u64; 10] = [0, 1, 7, 8, 9, 15, 256, 1 << 32, 1 << 63, u64::MAX];
         let operator_number = NAMED[self.r.below(NAMED.len())];
         let mut before = *s;
@@ -369,14 +385,16 @@ impl Trial {
             1 => disorder::out_of_order(&mut self.r, &mut before),
             _ => {}
         }
-        let number = plain::duty_refusal(before.tally().as_ref(), operator_number);
-        if number == 0 {
-            return Ok(());
-        }
+        let tally = before.tally();
+        let number = plain::duty_refusal(tally.as_ref(), operator_number);
         seen.refused_changes[number as usize] += 1;
+        let wanted = match tally {
+            Some(t) if number == 0 => State::of(&Tally { duty: operator_number, ..t }),
+            _ => before,
+        };
         let mut s = before;
         held(bridge::change_duty(&mut s, operator_number) == number, "the number of a refused change of duty", at)?;
-        held(s == before, "the tally of a refused change of duty", at)
+        held(s == wanted, "the tally after a change of duty that may be refused", at)
     }
 
     // The next piece, to a tally that has read more before, so that it ends at exactly 2^40 bytes: taken as ever.

@@ -10,6 +10,9 @@ import sys
 
 NUMBER = {"u8": "uint8_t", "u64": "uint64_t", "f64": "double"}
 
+# A parameter's name that is a word of C++ has another in the header.
+RENAMED = {"operator": "operator_number"}
+
 # An array's length that has a name in its signature.
 CROSSING = open("crates/crossing/src/lib.rt", encoding="utf-8").read()
 LENGTHS = dict(re.findall(r"^pub const (\w+): usize = (\d+);$", CROSSING, re.M))
@@ -37,7 +40,7 @@ def exported():
     entries = {}
     for name, given, answer in re.findall(r'#\[no_mangle\]\npub extern "C" fn (\w+)\((.*?)\)(?: -> (\w+))?\n', text, re.S):
         parameters = [p.strip().split(": ", 1) for p in re.split(r",\s*(?=\w+: |$)", given.strip()) if p.strip()]
-        arguments = [a for p in parameters for a in parameter(*p)]
+        arguments = [a for p, kind in parameters for a in parameter(RENAMED.get(p, p), kind)]
         entries[name] = "%s %s(%s)" % (NUMBER[answer] if answer else "void", name, ", ".join(arguments))
     if not entries or len(entries) != text.count("#[no_mangle]"):
         sys.exit("%d signatures were understood, of %d exported entries" % (len(entries), text.count("#[no_mangle]")))

@@ -11,6 +11,7 @@ pub use codecs::pcd_decode_time;
 pub use codecs::pcd_encode_number;
 pub use codecs::pcd_encode_time;
 pub use finding::pcd_find;
+pub use reading::pcd_change_duty;
 pub use reading::pcd_fresh;
 pub use reading::pcd_take;
 pub use word72::pcd_describe;

@@ -1,13 +1,14 @@
-// The reader's two entries. A tally crosses as its numbers and its frame of 128 bytes, which the caller lends and gets back.
-ghost use Rattle.crossing.specs.Crossing.{lent, TakeCrossed, FreshCrossed};
+// The reader's entries. A tally crosses as its numbers and its frame of 128 bytes, which the caller lends and gets back.
+ghost use Rattle.crossing.specs.Crossing.{lent, TakeCrossed, FreshCrossed, places, DutyCrossed};
 use crossing::NUMBERS;
 
-// Writes a fresh tally.
+// Writes a fresh tally of this rule: 1, by bytes, or 2, by bits. Returns the number of the refusal, 0 for none; after a refusal the fresh tally of
+// rule 1 is written.
 #[no_mangle]
-pub extern "C" fn pcd_fresh(numbers: &mut [u64; NUMBERS], frame: &mut [u8; 128])
-    ensures { λ _. ⌜ FreshCrossed (now (numbers .exit)) (now (frame .exit)) ⌝ }
+pub extern "C" fn pcd_fresh(rule: u64, numbers: &mut [u64; NUMBERS], frame: &mut [u8; 128]) -> u8
+    ensures { λ r. ⌜ FreshCrossed rule r (now (numbers .exit)) (now (frame .exit)) ⌝ }
 {
-    crossing::fresh(numbers, frame);
+    crossing::fresh(rule, numbers, frame)
 }
 
 // Takes a piece of the stream. Returns the number of the refusal, 0 for none; a refusal writes nothing. `answer` gets the bytes taken, then
@@ -25,4 +26,16 @@ pub extern "C" fn pcd_take(
         (lent (now (numbers .exit)) (now (frame .exit)) (now (area .exit)) (now (answer .exit))) ⌝ }
 {
     crossing::take(numbers, frame, piece, area, answer)
+}
+
+// Puts an operator on duty. Returns the number of the refusal, 0 for none; a refusal writes nothing.
+#[no_mangle]
+pub extern "C" fn pcd_change_duty(
+    numbers: &mut [u64; NUMBERS],
+    frame: &mut [u8; 128],
+    operator: u64,
+) -> u8
+    ensures { λ r. ⌜ DutyCrossed (places (now (numbers .entry)) (now (frame .entry))) operator r (places (now (numbers .exit)) (now (frame .exit))) ⌝ }
+{
+    crossing::change_duty(numbers, frame, operator)
 }

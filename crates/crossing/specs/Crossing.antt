@@ -1,4 +1,4 @@
--- A tally as it crosses to another language: 23 numbers, and the frame beside them. Definitions only.
+-- A tally as it crosses to another language: 33 numbers, and the frame beside them. Definitions only.
 use mathlib.Core.Path.{_≡_}
 use mathlib.Core.Bool.{Bool, true, cond, not, _&&_}
 use mathlib.Core.List.{List, [], _∷_, _++_}
@@ -9,12 +9,13 @@ use Rattle.base.specs.Lists.{one}
 use Rattle.base.specs.Refusal.{_when_, answered}
 use Rattle.labelling.specs.declared.Framing.{Framing}
 use Rattle.labelling.specs.declared.Groups.{Groups}
+use Rattle.labelling.specs.declared.Operators.{Operators}
 use Rattle.labelling.specs.declared.Runs.{Runs}
 use Rattle.labelling.specs.declared.Tally.{Tally}
 use Rattle.labelling.specs.declared.Weak.{Weak}
-use Rattle.labelling.specs.Words.{byteVote}
 use Rattle.labelling.specs.Machine.{fresh}
-use Rattle.labelling.specs.Calls.{Call, Answer, answer, takeRefusal}
+use Rattle.labelling.specs.Once.{freshRefusal, ruleGiven}
+use Rattle.labelling.specs.Calls.{TakeCall, Answer, answer, takeRefusal, DutyCall, dutyRefusal, dutyAnswer}
 
 -- ---- a tally to numbers: the counts as they are, a copy as its byte, a flag as 1 or 0
 
@@ -31,13 +32,20 @@ runNumbers r = r .majors ∷ r .broken ∷ r .loose ∷ r .building ∷ []
 abbrev pub weakNumbers : Weak → List ℕ
 weakNumbers w = w .first ∷ w .second ∷ w .third ∷ []
 
--- the weak counts (02, request 2) come last, so that the places of 01's numbers stay
+-- the eight paid counts, operator 0 first, and who is on duty
+abbrev pub operatorNumbers : Operators → List ℕ
+operatorNumbers o = o .paid ++ o .duty ∷ []
+
+-- the weak counts (02, request 2), the operators (02, request 5) and the rule (02, request 6) come last, so that the places of the numbers
+-- before them stay
 abbrev pub numbersOf : Tally → List ℕ
-numbersOf t = groupNumbers (t .groups) ++ framingNumbers (t .framing) ++ runNumbers (t .runs) ++ weakNumbers (t .groups .weak)
+numbersOf t =
+    groupNumbers (t .groups) ++ framingNumbers (t .framing) ++ runNumbers (t .runs) ++ weakNumbers (t .groups .weak) ++ operatorNumbers (t .operators)
+    ++ t .rule ∷ []
 
 -- how many they are
 abbrev pub numberCount : ℕ
-numberCount = 23
+numberCount = 33
 
 -- ---- numbers to a tally
 
@@ -77,28 +85,36 @@ framingOf n = record {
 abbrev pub runsOf : List ℕ → Runs
 runsOf n = record { majors = getD n 16 0; broken = getD n 17 0; loose = getD n 18 0; building = getD n 19 0 }
 
-abbrev pub tallyOf : List ℕ → List ℕ → Tally
-tallyOf n frame = record { groups = groupsOf n; framing = framingOf n; runs = runsOf n; frame = frame }
+abbrev pub operatorsOf : List ℕ → Operators
+operatorsOf n = record {
+  paid = getD n 23 0 ∷ getD n 24 0 ∷ getD n 25 0 ∷ getD n 26 0 ∷ getD n 27 0 ∷ getD n 28 0 ∷ getD n 29 0 ∷ getD n 30 0 ∷ [];
+  duty = getD n 31 0;
+}
 
--- the two copies of a tally are bytes, as its struct has them
-pub record Copies (t : Tally) : Type 0 where
+abbrev pub tallyOf : List ℕ → List ℕ → Tally
+tallyOf n frame = record { groups = groupsOf n; framing = framingOf n; runs = runsOf n; operators = operatorsOf n; rule = getD n 32 0; frame = frame }
+
+-- the two copies of a tally are bytes, and the paid counts are eight, as its struct has them
+pub record Sized (t : Tally) : Type 0 where
   pub first-byte : t .groups .first < 256
   pub second-byte : t .groups .second < 256
+  pub eight : length (t .operators .paid) ≡ 8
 
 -- The lists that are a tally's are exactly the numbers of tallies, and each is the numbers of one tally: what crosses comes back the same,
 -- both ways.
 pub record Layout : Type 0 where
-  pub count-is : (t : Tally) → length (numbersOf t) ≡ numberCount
-  pub crosses : (t : Tally) → Copies t → isTally (numbersOf t) ≡ true
-  pub reads-back : (t : Tally) → tallyOf (numbersOf t) (t .frame) ≡ t
-  pub writes-back : (n frame : List ℕ) → length n ≡ numberCount → isTally n ≡ true → (numbersOf (tallyOf n frame) ≡ n) × Copies (tallyOf n frame)
+  pub count-is : (t : Tally) → Sized t → length (numbersOf t) ≡ numberCount
+  pub crosses : (t : Tally) → Sized t → isTally (numbersOf t) ≡ true
+  pub reads-back : (t : Tally) → Sized t → tallyOf (numbersOf t) (t .frame) ≡ t
+  pub writes-back : (n frame : List ℕ) → length n ≡ numberCount → isTally n ≡ true → (numbersOf (tallyOf n frame) ≡ n) × Sized (tallyOf n frame)
 
 -- ---- what the entries promise
 
--- `fresh` leaves the lent numbers and frame
-pub record FreshCrossed (numbers frame : List ℕ) : Type 0 where
-  pub numbers-is : numbers ≡ numbersOf fresh
-  pub frame-is : frame ≡ fresh .frame
+-- `fresh` by a rule returns r and leaves the lent numbers and frame: those of the fresh tally of the rule, and after a refusal of rule 1
+pub record FreshCrossed (rule r : ℕ) (numbers frame : List ℕ) : Type 0 where
+  pub refusal-is : r ≡ freshRefusal rule
+  pub numbers-is : numbers ≡ numbersOf (fresh (ruleGiven rule))
+  pub frame-is : frame ≡ fresh (ruleGiven rule) .frame
   pub layout : Layout
 
 -- the places lent to `take` beside the piece
@@ -112,7 +128,7 @@ abbrev pub lent : List ℕ → List ℕ → List ℕ → List ℕ → Lent
 lent numbers frame area answer = record { numbers = numbers; frame = frame; area = area; answer = answer }
 
 -- the reader's call that they stand for
-abbrev pub callOf : Lent → List ℕ → Call
+abbrev pub callOf : Lent → List ℕ → TakeCall
 callOf l piece = record { tally = tallyOf (l .numbers) (l .frame); piece = piece; area = l .area }
 
 -- numbers that are no tally's are not in order: 1, before the lines of the reader's call, of which 1 is the first too
@@ -125,9 +141,39 @@ written a = lent (numbersOf (a .tally)) (a .tally .frame) (a .area) (a .taken �
 
 -- what is left: the answer, and after a refusal all as it was
 unfoldable pub takeLeaves : Lent → List ℕ → Lent
-takeLeaves l piece = cond (eqb (takeRefused l piece) 0) (written (answer byteVote (callOf l piece))) l
+takeLeaves l piece = cond (eqb (takeRefused l piece) 0) (written (answer (callOf l piece))) l
 
 -- `take` of a piece, with these places lent, returns r and leaves them so
 pub record TakeCrossed (l : Lent) (piece : List ℕ) (r : ℕ) (left : Lent) : Type 0 where
   pub refusal-is : r ≡ takeRefused l piece
   pub left-is : left ≡ takeLeaves l piece
+
+-- ---- a call that names an operator (02, request 5)
+
+-- the places lent to `change_duty`
+pub record Places : Type 0 where
+  pub numbers : List ℕ
+  pub frame : List ℕ
+
+abbrev pub places : List ℕ → List ℕ → Places
+places numbers frame = record { numbers = numbers; frame = frame }
+
+-- the reader's call that they stand for
+abbrev pub dutyCallOf : Places → ℕ → DutyCall
+dutyCallOf l k = record { tally = tallyOf (l .numbers) (l .frame); operator = k }
+
+-- numbers that are no tally's are not in order, as in `takeRefused`
+unfoldable pub dutyRefused : Places → ℕ → ℕ
+dutyRefused l k = answered (λ n. n) (1 when not (isTally (l .numbers)) ∷ []) (dutyRefusal (dutyCallOf l k))
+
+-- what is left: the tally answered, and after a refusal all as it was
+abbrev pub tallyPlaces : Tally → Places
+tallyPlaces t = places (numbersOf t) (t .frame)
+
+unfoldable pub dutyLeaves : Places → ℕ → Places
+dutyLeaves l k = cond (eqb (dutyRefused l k) 0) (tallyPlaces (dutyAnswer (dutyCallOf l k))) l
+
+-- `change_duty` to the operator k, with these places lent, returns r and leaves them so
+pub record DutyCrossed (l : Places) (k r : ℕ) (left : Places) : Type 0 where
+  pub refusal-is : r ≡ dutyRefused l k
+  pub left-is : left ≡ dutyLeaves l k

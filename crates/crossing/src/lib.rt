@@ -1,28 +1,36 @@
 // A tally as it crosses to programs in other languages: its numbers and the frame's 128 bytes, which the caller lends. An entry reads
 // them, calls the reader, and writes them back. No number is cut: numbers that are no tally's are refused as a tally not in order is.
+mod duty;
+
 ghost use mathlib.Core.Path.{_≡_};
 ghost use mathlib.Core.Bool.{true};
 ghost use Prim.Native.Nat.{_<_};
 ghost use lib.ListN.{getD};
 ghost use Rattle.base.specs.Lists.{one};
-ghost use Rattle.crossing.specs.Crossing.{isTally, groupsOf, framingOf, runsOf, tallyOf, numbersOf, lent, TakeCrossed, FreshCrossed};
+ghost use Rattle.crossing.specs.Crossing.{isTally, groupsOf, framingOf, runsOf, operatorsOf, tallyOf, numbersOf};
+ghost use Rattle.crossing.specs.Crossing.{lent, TakeCrossed, FreshCrossed};
 use base::refusal::NOT_IN_ORDER;
 use base::wide;
+pub use duty::change_duty;
 use labelling::Framing;
 use labelling::Groups;
+use labelling::Operators;
 use labelling::Runs;
 use labelling::Tally;
 use labelling::Weak;
 
 // How many numbers a tally crosses as.
-pub const NUMBERS: usize = 23;
+pub const NUMBERS: usize = 33;
 
-// Writes a fresh tally. What it promises of the numbers: they are those of a tally, and of that one alone.
-pub fn fresh(numbers: &mut [u64; NUMBERS], frame: &mut [u8; 128])
-    ensures { λ _. ⌜ FreshCrossed (now (numbers .exit)) (now (frame .exit)) ⌝ }
+// Writes a fresh tally of this rule. Returns the number of the refusal, 0 for none; after a refusal the fresh tally of rule 1 is written. What it
+// promises of the numbers: they are those of a tally, and of that one alone.
+pub fn fresh(rule: u64, numbers: &mut [u64; NUMBERS], frame: &mut [u8; 128]) -> u8
+    ensures { λ r. ⌜ FreshCrossed rule r (now (numbers .exit)) (now (frame .exit)) ⌝ }
 {
-    let t = reader::fresh();
+    let r = reader::fresh(rule);
+    let t = r.tally;
     put_tally(t, numbers, frame);
+    r.refusal
 }
 
 // Takes a piece of the stream. Returns the number of the refusal, 0 for none; a refusal writes nothing. `answer` gets the bytes taken, then
@@ -54,29 +62,32 @@ pub fn take(
 }
 
 // Whether these are the numbers of a tally: the copies are bytes, the flags 0 or 1.
-fn is_tally(n: &[u64; NUMBERS]) -> bool
+pub(crate) fn is_tally(n: &[u64; NUMBERS]) -> bool
     ensures { λ r. ⌜ r ≡ isTally (now (n .entry)) ⌝ }
 {
     (n[6] < 256) & (n[7] < 256) & (n[13] < 2) & (n[15] < 2)
 }
 
-fn tally_of(n: &[u64; NUMBERS], frame: &[u8; 128]) -> Tally
+pub(crate) fn tally_of(n: &[u64; NUMBERS], frame: &[u8; 128]) -> Tally
     requires { ⌜ isTally (now n) ≡ true ⌝ }
     ensures { λ r. ⌜ r ≡ tallyOf (now (n .entry)) (now (frame .entry)) ⌝ }
 {
     let groups = groups_of(n);
     let framing = framing_of(n);
     let runs = runs_of(n);
+    let operators = operators_of(n);
     let bytes = *frame;
     Tally {
         groups: groups,
         framing: framing,
         runs: runs,
+        operators: operators,
+        rule: n[32],
         frame: bytes,
     }
 }
 
-fn put_tally(t: Tally, n: &mut [u64; NUMBERS], frame: &mut [u8; 128])
+pub(crate) fn put_tally(t: Tally, n: &mut [u64; NUMBERS], frame: &mut [u8; 128])
     ensures { λ _. ⌜ now (n .exit) ≡ numbersOf t ⌝ }
     ensures { λ _. ⌜ now (frame .exit) ≡ t .frame ⌝ }
 {
@@ -87,6 +98,7 @@ fn put_tally(t: Tally, n: &mut [u64; NUMBERS], frame: &mut [u8; 128])
     let hunting = flag(f.hunting);
     let erasure = flag(f.erasure);
     let r = t.runs;
+    let p = t.operators.paid;
     *n = [
         g.bytes,
         g.fill,
@@ -111,6 +123,16 @@ fn put_tally(t: Tally, n: &mut [u64; NUMBERS], frame: &mut [u8; 128])
         g.weak.first,
         g.weak.second,
         g.weak.third,
+        p[0],
+        p[1],
+        p[2],
+        p[3],
+        p[4],
+        p[5],
+        p[6],
+        p[7],
+        t.operators.duty,
+        t.rule,
     ];
     let bytes = t.frame;
     *frame = bytes;
@@ -160,6 +182,16 @@ fn runs_of(n: &[u64; NUMBERS]) -> Runs
         broken: n[17],
         loose: n[18],
         building: n[19],
+    }
+}
+
+fn operators_of(n: &[u64; NUMBERS]) -> Operators
+    ensures { λ r. ⌜ r ≡ operatorsOf (now (n .entry)) ⌝ }
+{
+    let paid = [n[23], n[24], n[25], n[26], n[27], n[28], n[29], n[30]];
+    Operators {
+        paid: paid,
+        duty: n[31],
     }
 }
 

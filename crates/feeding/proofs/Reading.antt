@@ -11,10 +11,10 @@ use lib.Seq.{take-add}
 use Rattle.base.specs.Lists.{one}
 use Rattle.labelling.specs.declared.Operators.{Operators}
 use Rattle.labelling.specs.declared.Tally.{Tally}
-use Rattle.labelling.specs.Words.{byteVote}
 use Rattle.labelling.specs.Operators.{booked}
 use Rattle.labelling.specs.Calls.{TakeCall, takeRefusal, Answer, answer, taken, pays, takes, joined, paid, Handed, done, refused}
 use Rattle.labelling.proofs.Reaching.{handed-append, joined-append}
+use Rattle.labelling.proofs.Demand.{handed-rule}
 use Rattle.labelling.proofs.CallLaws.{Passed, passed, no-refusal, refused-answer, answer-ordered, accepted-bytes, accepted-operators}
 use Rattle.reader.specs.declared.Taken.{Taken}
 use Rattle.reader.specs.Shapes.{callOf, TakePromise}
@@ -53,11 +53,11 @@ module _ (f : Fed) (s old new : List ℕ) (r : Taken) (p : TakePromise (rest f s
 -- ---- what is read so far
 
 -- a call pays one frame where it completes one, and none otherwise
-pays-one : (c : TakeCall) → length (pays byteVote c) ≡ one (answer byteVote c .complete)
+pays-one : (c : TakeCall) → length (pays c) ≡ one (answer c .complete)
 unfolding pays
-pays-one c = go (answer byteVote c .complete)
+pays-one c = go (answer c .complete)
   where
-    go : (b : Bool) → length (cond b (answer byteVote c .area ∷ []) []) ≡ one b
+    go : (b : Bool) → length (cond b (answer c .area ∷ []) []) ≡ one b
     go true = refl
     go false = refl
 
@@ -69,9 +69,9 @@ pub record Reading (t : Tally) (s old : List ℕ) (f : Fed) (a : List ℕ) : Typ
   pub within : f .taken ≤ length s
   pub few : f .paid ≤ f .taken
   pub calls : List TakeCall
-  pub handed : Handed byteVote t old (asCalls calls) (f .tally) a
-  pub joined-is : joined byteVote (asCalls calls) ≡ take (f .taken) s
-  pub paid-is : f .paid ≡ length (paid byteVote (asCalls calls))
+  pub handed : Handed t old (asCalls calls) (f .tally) a
+  pub joined-is : joined (asCalls calls) ≡ take (f .taken) s
+  pub paid-is : f .paid ≡ length (paid (asCalls calls))
   pub duty-is : f .tally .operators .duty ≡ t .operators .duty
   -- the next call is refused as the first was, and the first is the only one that is
   pub same-refusal : takeRefusal (rest f s a) ≡ takeRefusal (callOf t s old)
@@ -83,8 +83,8 @@ begins t s old = record {
   few = omega arith;
   calls = [];
   handed = done;
-  joined-is = joined-none byteVote;
-  paid-is = ap length (sym (paid-none byteVote));
+  joined-is = joined-none;
+  paid-is = ap length (sym paid-none);
   duty-is = refl;
   same-refusal = refl;
   untouched = λ h. (refl, refl);
@@ -98,14 +98,14 @@ module _ (f : Fed) (s a : List ℕ) (e : takeRefusal (rest f s a) ≡ 0) (within
   checked : Passed call
   checked = passed call e
 
-  bytes-more : answer byteVote call .tally .groups .bytes ≡ f .tally .groups .bytes + answer byteVote call .taken
-  bytes-more = accepted-bytes byteVote call e
+  bytes-more : answer call .tally .groups .bytes ≡ f .tally .groups .bytes + answer call .taken
+  bytes-more = accepted-bytes call e
 
-  still-accepts : (b : List ℕ) → length b ≡ length a → f .taken + answer byteVote call .taken ≤ length s → takeRefusal (rest (after f call) s b) ≡ 0
+  still-accepts : (b : List ℕ) → length b ≡ length a → f .taken + answer call .taken ≤ length s → takeRefusal (rest (after f call) s b) ≡ 0
   still-accepts b same h =
       let left = length-drop (f .taken) s in
-      let o = answer-ordered byteVote call (checked .ordered-tally) in
-      no-refusal (answer byteVote call .tally) (drop (f .taken + answer byteVote call .taken) s) b o (same ∙ checked .whole-area)
+      let o = answer-ordered call (checked .ordered-tally) in
+      no-refusal (answer call .tally) (drop (f .taken + answer call .taken) s) b o (same ∙ checked .whole-area)
       (rw length-drop (omega (arith, bytes-more, left, checked .fits)))
 
 -- ---- how it ends
@@ -118,13 +118,13 @@ module _ (t : Tally) (s old : List ℕ) (m : ℕ) (e : takeRefusal (callOf t s o
   abbrev whole : TakeCall
   whole = callOf t s old
 
-  takes-nothing : joined byteVote (takes whole ∷ []) ≡ []
+  takes-nothing : joined (takes whole ∷ []) ≡ []
   unfolding taken
-  takes-nothing = rw (joined-one, refused-answer byteVote whole m e)
+  takes-nothing = rw (joined-one, refused-answer whole m e)
 
-  pays-nothing : paid byteVote (takes whole ∷ []) ≡ []
+  pays-nothing : paid (takes whole ∷ []) ≡ []
   unfolding pays
-  pays-nothing = rw (paid-one, refused-answer byteVote whole m e)
+  pays-nothing = rw (paid-one, refused-answer whole m e)
 
   first-refused : FeedPromise t s old (refusedWith t (suc m)) old
   first-refused = record {
@@ -136,6 +136,7 @@ module _ (t : Tally) (s old : List ℕ) (m : ℕ) (e : takeRefusal (callOf t s o
     joined-is = takes-nothing;
     paid-is = ap length (sym pays-nothing);
     duty-is = refl;
+    rule-is = refl;
   }
 
 module _ {t : Tally} {s old : List ℕ} {f r : Fed} {a b : List ℕ} (i : Reading t s old f a) (n : NextPromise f s a r b) where
@@ -150,22 +151,22 @@ module _ {t : Tally} {s old : List ℕ} {f r : Fed} {a b : List ℕ} (i : Readin
     more-calls : asCalls (i .calls ++ rest f s a ∷ []) ≡ asCalls (i .calls) ++ takes (rest f s a) ∷ []
     more-calls = rw map-append
 
-    more-joined : joined byteVote (asCalls (i .calls ++ rest f s a ∷ [])) ≡ take (r .taken) s
+    more-joined : joined (asCalls (i .calls ++ rest f s a ∷ [])) ≡ take (r .taken) s
     unfolding taken
     more-joined = rw (more-calls, n .next-is, joined-append, joined-one, i .joined-is, take-add)
 
-    more-paid : r .paid ≡ length (paid byteVote (asCalls (i .calls ++ rest f s a ∷ [])))
+    more-paid : r .paid ≡ length (paid (asCalls (i .calls ++ rest f s a ∷ [])))
     more-paid = rw (more-calls, n .next-is, paid-append, paid-one, length-append, ← i .paid-is, pays-one)
 
     same-duty : r .tally .operators .duty ≡ t .operators .duty
-    same-duty = rw (n .next-is) (ap (λ (o : Operators). o .duty) (accepted-operators byteVote (rest f s a) accepts) ∙ i .duty-is)
+    same-duty = rw (n .next-is) (ap (λ (o : Operators). o .duty) (accepted-operators (rest f s a) accepts) ∙ i .duty-is)
 
     pub goes-on : length b ≡ length a → Reading t s old r b
     goes-on same = record {
       within = n .within;
       few = n .few;
       calls = i .calls ++ rest f s a ∷ [];
-      handed = rw (more-calls, n .next-is, n .area-is) (handed-append byteVote (i .handed) (handed-one byteVote (rest f s a) accepts));
+      handed = rw (more-calls, n .next-is, n .area-is) (handed-append (i .handed) (handed-one (rest f s a) accepts));
       joined-is = more-joined;
       paid-is = more-paid;
       duty-is = same-duty;
@@ -190,6 +191,7 @@ module _ {t : Tally} {s old : List ℕ} {f r : Fed} {a b : List ℕ} (i : Readin
           joined-is = j .joined-is;
           paid-is = j .paid-is;
           duty-is = j .duty-is;
+          rule-is = handed-rule (j .handed);
         }
 
   -- the call is refused: it is the first
@@ -201,6 +203,6 @@ module _ {t : Tally} {s old : List ℕ} {f r : Fed} {a b : List ℕ} (i : Readin
       go (suc m) e =
           let whole : takeRefusal (callOf t s old) ≡ suc m = sym refusal-same ∙ e in
           let first = i .untouched (λ y. omega (arith, whole)) in
-          let answered = refused-answer byteVote (callOf t s old) m whole in
+          let answered = refused-answer (callOf t s old) m whole in
           let same : r ≡ refusedWith t (suc m) = n .next-is ∙ rw (first .0, first .1, answered, whole) in
           rw (same, n .area-is, first .0, first .1, answered) (first-refused t s old m whole)

@@ -83,8 +83,11 @@ module _ {vote : Vote} (m : Majority vote) where
       stopped : Now → Progress
       stopped x = record { state = x .state; area = x .area; taken = 1; complete = true }
 
-      go : (c : Bool) → n .complete ≡ c
-          → (splits (feed byteVote (n .state) (n .area) bs .state) ≡ splits (n .state) → feed byteVote (n .state) (n .area) bs ≡ feed vote (n .state) (n .area) bs)
+      -- the rest of the piece, by a vote
+      rest-by : Vote → Progress
+      rest-by v = feed v (n .state) (n .area) bs
+
+      go : (c : Bool) → n .complete ≡ c → (splits (rest-by byteVote .state) ≡ splits (n .state) → rest-by byteVote ≡ rest-by vote)
           → feed byteVote t a (b ∷ bs) ≡ feed vote t a (b ∷ bs)
       go true e more =
           let first = feed-complete byteVote t a b bs e in
@@ -92,11 +95,11 @@ module _ {vote : Vote} (m : Majority vote) where
           first ∙ ap stopped same ∙ sym (feed-complete vote t a b bs (rw (← same) e))
       go false e more =
           let first = feed-more byteVote t a b bs e in
-          let rest : splits (feed byteVote (n .state) (n .area) bs .state) ≡ splits t = rw first at h in
+          let rest : splits (rest-by byteVote .state) ≡ splits t = rw first at h in
           let grows = feed-grows byteVote (n .state) (n .area) bs in
           let here : splits (n .state) ≡ splits t = omega (arith, split-grows byteVote t a b) in
           let same : n ≡ byteStep vote t a b = step-agrees t a b here in
-          let then-on : feed byteVote (n .state) (n .area) bs ≡ feed vote (n .state) (n .area) bs = more (rest ∙ sym here) in
+          let then-on : rest-by byteVote ≡ rest-by vote = more (rest ∙ sym here) in
           first ∙ ap (λ (x : Progress). andOne x) then-on ∙ ap (λ (x : Now). andOne (feed vote (x .state) (x .area) bs)) same
           ∙ sym (feed-more vote t a b bs (rw (← same) e))
 

@@ -62,6 +62,9 @@ joined-first : (c : Call) (cs : List Call) → joined (c ∷ cs) ≡ takenBy c +
 unfolding joined
 joined-first c cs = refl
 
+abbrev callOn : Tally → List ℕ → List ℕ → TakeCall
+callOn t p a = record { tally = t; piece = p; area = a }
+
 -- what demand 3 says of the last call of a list
 last-pays : (vote : Vote) (js : List ℕ) (cs : List Call) (c : TakeCall) → Each vote js (cs ++ takes c ∷ []) → PaysAt vote (js ++ joined cs) c
 unfolding joined
@@ -155,48 +158,55 @@ module _ (rule : ℕ) (is-rule : isRule rule ≡ true) (a₀ : List ℕ) (whole 
           tally-same = after .tally-left;
         }
 
-  -- the next call on each, over streams that go on with the same words: it stops at the same byte
+  -- ---- the next call on each
+
+  -- after the calls cs, one on the piece p is accepted, and demand 3 says what it pays
+  module _ {cs : List Call} {t : Tally} {a : List ℕ} (h : Handed (fresh rule) a₀ cs t a) (p : List ℕ) (fits : length (joined cs) + length p ≤ 2 ^ 40) where
+    next-accepted : takeRefusal (callOn t p a) ≡ 0
+    next-accepted = once rule is-rule a₀ whole cs t a h .goes-on p fits
+
+    next-handed : Handed t a (takes (callOn t p a) ∷ []) (answer (callOn t p a) .tally) (answer (callOn t p a) .area)
+    next-handed = accepted (callOn t p a) next-accepted done
+
+    next-pays : PaysAt (ruleVote rule) (joined cs) (callOn t p a)
+    next-pays =
+        let o = once rule is-rule a₀ whole (cs ++ takes (callOn t p a) ∷ []) _ _ (handed-append h next-handed) in
+        last-pays (ruleVote rule) [] cs (callOn t p a) (o .each)
+
+  -- over streams that go on with the same words it stops at the same byte
   module _ {cs ds : List Call} {t u : Tally} {a b : List ℕ} (x : SoFar cs ds t u a b) (p p′ : List ℕ)
       (s : SameWords (ruleVote rule) (joined cs ++ p) (joined ds ++ p′)) (fits : length (joined cs) + length p ≤ 2 ^ 40) where
-    abbrev c : TakeCall
-    c = record { tally = t; piece = p; area = a }
-
-    abbrev d : TakeCall
-    d = record { tally = u; piece = p′; area = b }
-
     as-many-more : length p′ ≡ length p
     as-many-more =
         omega (arith, same-length (ruleVote rule) s, length-append (joined cs) p, length-append (joined ds) p′, as-long (x .duties))
 
-    c-accepted : takeRefusal c ≡ 0
-    c-accepted = once rule is-rule a₀ whole cs t a (x .here) .goes-on p fits
-
-    d-accepted : takeRefusal d ≡ 0
-    d-accepted = once rule is-rule a₀ whole ds u b (x .there) .goes-on p′ (omega (arith, as-many-more, as-long (x .duties)))
-
-    c-pays : PaysAt (ruleVote rule) (joined cs) c
-    c-pays = last-pays (ruleVote rule) [] cs c (once rule is-rule a₀ whole (cs ++ takes c ∷ []) _ _ (handed-append (x .here) (accepted c c-accepted done)) .each)
-
-    d-pays : PaysAt (ruleVote rule) (joined ds) d
-    d-pays = last-pays (ruleVote rule) [] ds d (once rule is-rule a₀ whole (ds ++ takes d ∷ []) _ _ (handed-append (x .there) (accepted d d-accepted done)) .each)
+    fits-there : length (joined ds) + length p′ ≤ 2 ^ 40
+    fits-there = omega (arith, as-many-more, as-long (x .duties))
 
     same-majors-at : (k : ℕ) → majorsIn (ruleVote rule) (joined ds ++ take k p′) ≡ majorsIn (ruleVote rule) (joined cs ++ take k p)
     same-majors-at k =
         rw (take-append-add (joined cs) p k, ← as-long (x .duties), take-append-add (joined ds) p′ k)
         at (same-majors (ruleVote rule) (same-front (ruleVote rule) (length (joined cs) + k) s))
 
-    same-stop : answer d .taken ≡ answer c .taken
+    same-stop : answer (callOn u p′ b) .taken ≡ answer (callOn t p a) .taken
     same-stop =
+        let r = next-accepted (x .here) p fits in
+        let r′ = next-accepted (x .there) p′ fits-there in
+        let pays = next-pays (x .here) p fits in
+        let pays′ = next-pays (x .there) p′ fits-there in
         omega (
           arith,
-          no-sooner c-accepted c-pays d-pays as-many-more same-majors-at,
-          no-sooner d-accepted d-pays c-pays (sym as-many-more) (λ k. sym (same-majors-at k)),
+          no-sooner r pays pays′ as-many-more same-majors-at,
+          no-sooner r′ pays′ pays (sym as-many-more) (λ k. sym (same-majors-at k)),
         )
 
-    next-same : SameAnswer c d
+    next-same : SameAnswer (callOn t p a) (callOn u p′ b)
     unfolding taken
     next-same =
-        let next = more x (accepted c c-accepted done) (accepted d d-accepted done) (both-take c d c-accepted d-accepted same-stop ends) in
+        let c = callOn t p a in
+        let d = callOn u p′ b in
+        let both = both-take c d (next-accepted (x .here) p fits) (next-accepted (x .there) p′ fits-there) same-stop ends in
+        let next = more x (next-handed (x .here) p fits) (next-handed (x .there) p′ fits-there) both in
         let n = answer c .taken in
         let m = answer d .taken in
         answers-same x (drop n p) (drop m p′) c d next same-stop

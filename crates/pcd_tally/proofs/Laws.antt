@@ -13,14 +13,14 @@ use lib.Signed.{ltZ}
 use borrow.Author.Tests.{ltb-true, ltb-false, eqb-false, ne-eqb}
 use Rattle.io.specs.Counts.{clamped}
 use Rattle.labelling.specs.declared.Tally.{Tally}
-use Rattle.labelling.specs.Words.{byteVote}
 use Rattle.labelling.specs.Machine.{fresh}
 use Rattle.labelling.specs.Calls.{takeRefusal, done}
-use Rattle.labelling.specs.Once.{Once}
+use Rattle.labelling.specs.Once.{ruleGiven, Once}
 use Rattle.labelling.proofs.Ordered.{bytes-within}
 use Rattle.labelling.proofs.Reaching.{handed-append, joined-append}
 use Rattle.labelling.proofs.CallLaws.{passed, too-long}
 use Rattle.labelling.proofs.Demand.{once}
+use Rattle.labelling.proofs.Promised.{rule-known}
 use Rattle.reader.specs.Shapes.{callOf}
 use Rattle.feeding.specs.declared.Fed.{Fed}
 use Rattle.feeding.specs.Promise.{FeedPromise}
@@ -32,12 +32,12 @@ use Rattle.pcd_tally.specs.Reading.{blank, ReadSoFar, brought, tooMany, 
 use Rattle.pcd_tally.specs.Reading.{Carried, FedPromise, TookPromise, TurnPromise, isMore, AllPromise}
 
 -- nothing is read yet
-pub nothing-read : (t : Tally) → t ≡ fresh → ReadSoFar 0 t blank
-nothing-read t e = rw e (record { calls = []; handed = done; count-is = ap length (joined-none byteVote) })
+pub nothing-read : (t : Tally) → t ≡ fresh (ruleGiven 1) → ReadSoFar 0 t blank
+nothing-read t e = rw (e, rule-known 1 refl .1) (record { calls = []; handed = done; count-is = ap length joined-none })
 
 module _ {n : ℕ} {t : Tally} {a : List ℕ} (h : ReadSoFar n t a) where
-  claim : Once byteVote blank (h .calls) t a
-  claim = once byteVote blank (length-replicate {A = ℕ} 16384 0) (h .calls) t a (h .handed)
+  claim : Once 1 blank (h .calls) t a
+  claim = once 1 refl blank (length-replicate {A = ℕ} 16384 0) (h .calls) t a (h .handed)
 
   bytes-are : t .groups .bytes ≡ n
   bytes-are = claim .counts .bytes-is ∙ h .count-is
@@ -74,13 +74,13 @@ taken-within t stream old new {f} p = go (eqb (f .refusal) 0) (p .taken-is)
 pub reads-more : {s r : State} {bytes old new : List ℕ} → ReadSoFar (s .read) (s .tally) old → Carried s bytes old r new → ReadSoFar (r .read) (r .tally) new
 reads-more h k = record {
   calls = h .calls ++ k .calls;
-  handed = handed-append byteVote (h .handed) (k .handed);
+  handed = handed-append (h .handed) (k .handed);
   count-is = rw (joined-append, length-append, h .count-is, k .joined-is, k .read-is);
 }
 
 -- nothing is carried on where nothing is taken
 pub carries-nothing : (s : State) (input : Input) (a : List ℕ) → Carried s [] a (record { tally = s .tally; read = s .read; input = input }) a
-carries-nothing s input a = record { calls = []; handed = done; joined-is = joined-none byteVote; read-is = omega arith }
+carries-nothing s input a = record { calls = []; handed = done; joined-is = joined-none; read-is = omega arith }
 
 module _ (s : State) (piece old new : List ℕ) (f : Fed) (h : ReadSoFar (s .read) (s .tally) old) (p : FeedPromise (s .tally) piece old f new) where
   refusal-as : f .refusal ≡ cond (tooMany (s .read) piece) 3 0

@@ -1,5 +1,5 @@
 -- What reading standard input promises. No contract can name the bytes that a read brings; but whatever they are, the tally carried from read to
--- read is what a list of calls leaves, handed on from a fresh tally, whose joined bytes are all that was read. Definitions only.
+-- read is what a list of calls leaves, handed on from a fresh tally of rule 1, whose joined bytes are all that was read. Definitions only.
 use mathlib.Core.Path.{_≡_}
 use mathlib.Core.Bool.{Bool, true, false, cond}
 use mathlib.Core.List.{List, []}
@@ -9,7 +9,6 @@ use lib.IntN.{ℤ, pos, negsuc}
 use lib.ListN.{length, take, replicate}
 use Rattle.io.specs.Counts.{clamped}
 use Rattle.labelling.specs.declared.Tally.{Tally}
-use Rattle.labelling.specs.Words.{byteVote}
 use Rattle.labelling.specs.Machine.{fresh}
 use Rattle.labelling.specs.Calls.{Call, joined, Handed}
 use Rattle.pcd_tally.specs.declared.Input.{Input}
@@ -22,8 +21,8 @@ blank = replicate 16384 0
 -- n bytes are read so far: the tally t and the area a are what a list of calls leaves that has taken as many
 pub record ReadSoFar (n : ℕ) (t : Tally) (a : List ℕ) : Type 0 where
   pub calls : List Call
-  pub handed : Handed byteVote fresh blank calls t a
-  pub count-is : length (joined byteVote calls) ≡ n
+  pub handed : Handed (fresh 1) blank calls t a
+  pub count-is : length (joined calls) ≡ n
 
 -- ---- one read
 
@@ -47,8 +46,8 @@ inputAfter (pos k) n piece = cond (eqb (length piece) 0) Ended (cond (tooMany n 
 -- from the state s and the area old the bytes are taken that leave r and the area new: calls go on from what s carries
 pub record Carried (s : State) (bytes old : List ℕ) (r : State) (new : List ℕ) : Type 0 where
   pub calls : List Call
-  pub handed : Handed byteVote (s .tally) old calls (r .tally) new
-  pub joined-is : joined byteVote calls ≡ bytes
+  pub handed : Handed (s .tally) old calls (r .tally) new
+  pub joined-is : joined calls ≡ bytes
   pub read-is : r .read ≡ s .read + length bytes
 
 -- a piece is fed

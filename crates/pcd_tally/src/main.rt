@@ -9,6 +9,9 @@ use libc::STDERR_FILENO;
 use libc::STDIN_FILENO;
 use libc::STDOUT_FILENO;
 
+// The program keeps the vote by bytes.
+const RULE: u64 = 1;
+
 // How reading stands.
 enum Input {
     More,
@@ -51,8 +54,10 @@ fn report(t: Tally, read: u64)
 fn begun() -> State
     ensures { λ r. ⌜ ReadSoFar (r .read) (r .tally) blank ⌝ }
 {
+    let begun = reader::fresh(RULE);
+    let tally = begun.tally;
     State {
-        tally: reader::fresh(),
+        tally: tally,
         read: 0,
         input: Input::More,
     }

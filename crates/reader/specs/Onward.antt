@@ -8,7 +8,7 @@ use Rattle.base.specs.Format.{minorFrame}
 use Rattle.labelling.specs.declared.Groups.{Groups}
 use Rattle.labelling.specs.Machine.{State}
 use Rattle.labelling.specs.Words.{Vote}
-use Rattle.labelling.specs.Votes.{Unanimous}
+use Rattle.labelling.specs.Votes.{ruleVote, Unanimous}
 use Rattle.labelling.specs.Order.{stateInOrder}
 use Rattle.labelling.specs.Calls.{Progress, plus, feed}
 use Rattle.nominal.specs.Stretches.{lastOr}
@@ -43,9 +43,9 @@ from i l frame area = record { at = i; state = stateWith l frame; area = area }
 abbrev pub ranTo : Ran → List ℕ → List ℕ → Moment
 ranTo r frame area = from (r .at) (r .layers) frame area
 
--- the whole piece, from m
-abbrev pub fed : Vote → List ℕ → Moment → Progress
-fed vote p m = feed vote (m .state) (m .area) p
+-- the whole piece, from m, by a rule
+abbrev pub fed : ℕ → List ℕ → Moment → Progress
+fed rule p m = feed (ruleVote rule) (m .state) (m .area) p
 
 -- the call goes on from m
 abbrev pub restFrom : Vote → List ℕ → Moment → Progress
@@ -65,9 +65,9 @@ pub record Onward (vote : Vote) (p : List ℕ) (m n : Moment) (complete : Bool) 
   pub within : n .at ≤ length p
   pub frame-length : length (n .state .frame) ≡ minorFrame
 
--- a part leads from m to what the run r leaves, and takes a byte or more
-pub record Ahead (vote : Vote) (p : List ℕ) (m : Moment) (r : Ran) (frame area : List ℕ) : Type 0 where
-  pub onward : Onward vote p m (ranTo r frame area) (r .complete)
+-- by a rule, a part leads from m to what the run r leaves, and takes a byte or more
+pub record Ahead (rule : ℕ) (p : List ℕ) (m : Moment) (r : Ran) (frame area : List ℕ) : Type 0 where
+  pub onward : Onward (ruleVote rule) p m (ranTo r frame area) (r .complete)
   pub moves : m .at < r .at
 
 -- a stretch leads from t at i to u at j under every vote that gives three equal copies their word: nothing is complete, and no area is written

@@ -3,7 +3,6 @@ ghost use mathlib.Core.Path.{_≡_};
 ghost use Prim.Native.Nat.{_<_};
 ghost use lib.ListN.{length};
 ghost use Rattle.base.specs.Format.{majorFrame};
-ghost use Rattle.labelling.specs.Votes.{ruleVote};
 ghost use Rattle.plain_steps.specs.Shapes.{stateWith};
 ghost use Rattle.reader.specs.Onward.{Begun, from, fed, Ahead};
 ghost use Rattle.reader.specs.Shapes.{ranOf};
@@ -27,7 +26,7 @@ fn one_byte(
     area: &mut [u8],
 ) -> Ran
     requires { ⌜ Begun (now piece) at (stateWith l (now frame)) × (at < length (now piece)) × (length (now area) ≡ majorFrame) ⌝ }
-    ensures { λ r. ⌜ Ahead (ruleVote rule) (now (piece .entry)) (from at l (now (frame .entry)) (now (area .entry))) r (now (frame .exit)) (now (area .exit)) ⌝ }
+    ensures { λ r. ⌜ Ahead rule (now (piece .entry)) (from at l (now (frame .entry)) (now (area .entry))) r (now (frame .exit)) (now (area .exit)) ⌝ }
 {
     let s = plain_steps::byte_step(rule, l, piece[at], frame, area);
     let left = s.layers;
@@ -48,7 +47,7 @@ fn advance(
     area: &mut [u8],
 ) -> Ran
     requires { ⌜ Begun (now piece) at (stateWith l (now frame)) × (at < length (now piece)) × (length (now area) ≡ majorFrame) ⌝ }
-    ensures { λ r. ⌜ Ahead (ruleVote rule) (now (piece .entry)) (from at l (now (frame .entry)) (now (area .entry))) r (now (frame .exit)) (now (area .exit)) ⌝ }
+    ensures { λ r. ⌜ Ahead rule (now (piece .entry)) (from at l (now (frame .entry)) (now (area .entry))) r (now (frame .exit)) (now (area .exit)) ⌝ }
 {
     let r = stretch::reach(l, piece, at, frame);
     let next = r.layers;
@@ -65,7 +64,7 @@ fn advance(
 // A piece from its first byte on.
 pub(crate) fn run(rule: u64, l: Layers, piece: &[u8], frame: &mut [u8; 128], area: &mut [u8]) -> Ran
     requires { ⌜ Begun (now piece) 0 (stateWith l (now frame)) × (length (now area) ≡ majorFrame) ⌝ }
-    ensures { λ r. ⌜ ranOf r (now (frame .exit)) (now (area .exit)) ≡ fed (ruleVote rule) (now (piece .entry)) (from 0 l (now (frame .entry)) (now (area .entry))) ⌝ }
+    ensures { λ r. ⌜ ranOf r (now (frame .exit)) (now (area .exit)) ≡ fed rule (now (piece .entry)) (from 0 l (now (frame .entry)) (now (area .entry))) ⌝ }
 {
     let mut next = l;
     let mut i: usize = 0;

@@ -9,27 +9,27 @@ use lib.ListN.{length}
 use borrow.Author.Tests.{lt-ltb, le-ltb, eq-eqb, ne-eqb}
 use Rattle.writer.specs.Stream.{stream, leadIn, isWritable}
 use Rattle.writer.specs.Promise.{LeadInPromise, MinorFramePromise}
-use Rattle.writer.proofs.ReadingBack.{byte-reel-promise}
+use Rattle.writer.proofs.ReadingBack.{reel-promise}
 
 -- ---- a lead-in
 
 module _ (f : ℕ) (old : List ℕ) where
   pub lead-in-too-wide : 60 < f → LeadInPromise f old old 4
-  lead-in-too-wide h = record { answer = rw (lt-ltb 60 f h); after = rw (lt-ltb 60 f h); reel = byte-reel-promise }
+  lead-in-too-wide h = record { answer = rw (lt-ltb 60 f h); after = rw (lt-ltb 60 f h); reel = reel-promise }
 
   module _ (fits : f ≤ 60) where
     pub lead-in-wrong-length : (length old ≡ 3 * (4 + f) → ⊥) → LeadInPromise f old old 2
     lead-in-wrong-length h =
         let narrow = le-ltb 60 f fits in
         let other = ne-eqb (length old) (3 * (4 + f)) h in
-        record { answer = rw (narrow, other); after = rw (narrow, other); reel = byte-reel-promise }
+        record { answer = rw (narrow, other); after = rw (narrow, other); reel = reel-promise }
 
     pub lead-in-written : (new : List ℕ) → length old ≡ 3 * (4 + f) → new ≡ stream (4 + f - 4) leadIn → LeadInPromise f old new 0
     lead-in-written new h e =
         let narrow = le-ltb 60 f fits in
         let room = eq-eqb (length old) (3 * (4 + f)) h in
         let f-is : 4 + f - 4 ≡ f = omega arith in
-        record { answer = rw (narrow, room); after = rw (narrow, room, e, f-is); reel = byte-reel-promise }
+        record { answer = rw (narrow, room); after = rw (narrow, room, e, f-is); reel = reel-promise }
 
 -- ---- a minor frame
 

@@ -1,5 +1,5 @@
 -- A written reel is read back: every byte is fill or voted, every frame is good, and every run is a major frame of the reel. In each layer
--- what stands in front is read off, whatever follows it, and demand 3 takes this to any list of calls. Assumes nothing.
+-- what stands in front is read off, whatever follows it, and demand 3 takes this to any list of calls, under either rule. Assumes nothing.
 use mathlib.Core.Path.{_≡_, refl, ap, _∙_}
 use mathlib.Core.Bool.{true, false}
 use mathlib.Core.List.{List, [], _∷_, _++_, map, append-assoc, append-nil}
@@ -15,14 +15,17 @@ use Rattle.labelling.specs.declared.FrameClass.the-variants.{Good, Damaged, Uns
 use Rattle.labelling.specs.declared.Tally.{Tally}
 use Rattle.labelling.specs.declared.Word.{Word}
 use Rattle.labelling.specs.declared.Word.the-variants.{Voted, Erased}
-use Rattle.labelling.specs.Words.{SYNC, FILL, outside, Vote, byteVote, Label, as-fill, as-stray, as-voted, as-split, as-open, sameLabel, words}
+use Rattle.labelling.specs.Words.{SYNC, FILL, outside, Vote, Label, as-fill, as-stray, as-voted, as-split, as-open, sameLabel, words}
 use Rattle.labelling.specs.Words.{labels, labelled, weakCopy, weakly}
+use Rattle.labelling.specs.Votes.{ruleVote}
 use Rattle.labelling.specs.MinorFrames.{synced, anyErased, frameClass, sameClass, placing, hunted, frame, pieces, frameOf, frames, inHunted, inPart}
 use Rattle.labelling.specs.MinorFrames.{classed}
 use Rattle.labelling.specs.MajorFrames.{value, values, isGood, number, Run, major, runs, inBroken, inLoose, inBuilding}
 use Rattle.labelling.specs.Machine.{syncedBytes, fresh}
+use Rattle.labelling.specs.Order.{isRule}
 use Rattle.labelling.specs.Calls.{Call, joined, Handed}
 use Rattle.labelling.specs.Once.{framesIn, majorsIn, Counts, Once, ReadBySome}
+use Rattle.labelling.proofs.Votes.{unanimous}
 use Rattle.labelling.proofs.Pieces.{cuts, hunt-ends, frame-closes}
 use Rattle.labelling.proofs.FrameClasses.{class-of-bytes}
 use Rattle.labelling.proofs.IfAny.{ifAny, sumBy-ifAny}
@@ -132,7 +135,13 @@ none-named : (b : ℕ) → weakCopy b b b ≡ 0
 unfolding weakCopy
 none-named b = rw (eq-eqb b b refl)
 
-module _ (vote : Vote) (alike : (w : ℕ) → vote w w w ≡ Voted w) where
+module _ (rule : ℕ) (is-rule : isRule rule ≡ true) where
+  abbrev vote : Vote
+  vote = ruleVote rule
+
+  alike : (w : ℕ) → vote w w w ≡ Voted w
+  alike = unanimous rule .all-three
+
   -- ---- bytes to words
 
   -- the bytes xs give the words ws, have no label but fill and voted, and no weak copy
@@ -203,8 +212,8 @@ module _ (vote : Vote) (alike : (w : ℕ) → vote w w w ≡ Voted w) where
       unfolding runs
       no-other-run g none = rw (frames-are, cuts-majors mss whole .runs-are, append-nil) (only-majors g none (map asMajor mss))
 
-      read-back : (a₀ : List ℕ) → length a₀ ≡ 16384 → (cs : List Call) (t : Tally) (a : List ℕ) → Handed vote fresh a₀ cs t a → joined vote cs ≡ reel f mss
-          → ReadBack vote mss cs t
+      read-back : (a₀ : List ℕ) → length a₀ ≡ 16384 → (cs : List Call) (t : Tally) (a : List ℕ) → Handed (fresh rule) a₀ cs t a → joined cs ≡ reel f mss
+          → ReadBack mss cs t
       read-back a₀ full cs t a h e = record {
         paid-is = all .paid-is ∙ rw (e, majors-are) (majors-back mss);
         majors-is = count .majors-is ∙ rw majors-are (length-map mss asMajor);
@@ -223,23 +232,18 @@ module _ (vote : Vote) (alike : (w : ℕ) → vote w w w ≡ Voted w) where
         none-building = count .building-is ∙ no-other-run inBuilding (λ p. refl);
       }
         where
-          all : Once vote a₀ cs t a
-          all = once vote a₀ full cs t a h
+          all : Once rule a₀ cs t a
+          all = once rule is-rule a₀ full cs t a h
 
           count : Counts vote t (reel f mss)
           count = rw e at (all .counts)
 
       -- some calls read it, and what they have taken is the reel
       read-by-some : length (reel f mss) ≤ 2 ^ 40 → (a₀ : List ℕ) → length a₀ ≡ 16384 → (ps : List (List ℕ)) → concatMap (λ p. p) ps ≡ reel f mss
-          → (r : ReadBySome vote fresh a₀ ps) × ReadBack vote mss (r .calls) (r .tally)
+          → (r : ReadBySome (fresh rule) a₀ ps) × ReadBack mss (r .calls) (r .tally)
       read-by-some fits a₀ full ps e =
-          let r = reaches vote a₀ full ps (rw e fits) in
+          let r = reaches rule is-rule a₀ full ps (rw e fits) in
           (r, read-back a₀ full (r .calls) (r .tally) (r .area) (r .handed) (r .joined-is ∙ e))
 
-  pub reel-promise : ReelPromise vote
+  pub reel-promise : ReelPromise rule
   reel-promise = record { some-list = read-by-some; every-list = read-back }
-
--- 01's vote gives the word that three equal copies have
-pub byte-reel-promise : ReelPromise byteVote
-unfolding byteVote
-byte-reel-promise = reel-promise byteVote (λ w. rw (eq-eqb w w refl))

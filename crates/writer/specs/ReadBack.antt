@@ -1,4 +1,4 @@
--- What the writer makes is read back (01, "The writer"; 02, request 2): a lead-in, then whole major frames, each minor frame at a spacing of its own.
+-- What the writer makes is read back (01, "The writer"; 02, requests 2 and 6): a lead-in, then whole major frames, each minor frame at a spacing of its own.
 -- Definitions only.
 use mathlib.Core.Path.{_≡_}
 use mathlib.Core.Bool.{true}
@@ -8,7 +8,6 @@ use lib.ListN.{length, getD}
 use Rattle.base.specs.Format.{majorFrame}
 use Rattle.base.specs.Lists.{concatMap}
 use Rattle.labelling.specs.declared.Tally.{Tally}
-use Rattle.labelling.specs.Words.{Vote}
 use Rattle.labelling.specs.Machine.{syncedBytes, fresh}
 use Rattle.labelling.specs.Calls.{Call, joined, paid, Handed}
 use Rattle.labelling.specs.Once.{ReadBySome}
@@ -44,29 +43,28 @@ reel f mss = stream f leadIn ++ concatMap (λ ms. concatMap written ms) mss
 abbrev pub bytesOf : List Minor → List ℕ
 bytesOf ms = concatMap (λ m. m .bytes) ms
 
-module _ (vote : Vote) where
-  -- the calls cs have read the reel of the major frames mss and left t
-  pub record ReadBack (mss : List (List Minor)) (cs : List Call) (t : Tally) : Type 0 where
-    pub paid-is : paid vote cs ≡ map bytesOf mss
-    pub majors-is : t .runs .majors ≡ length mss
-    pub no-stray : t .groups .stray ≡ 0
-    pub no-split : t .groups .split ≡ 0
-    pub no-weak1 : t .groups .weak .first ≡ 0
-    pub no-weak2 : t .groups .weak .second ≡ 0
-    pub no-weak3 : t .groups .weak .third ≡ 0
-    pub none-open : t .groups .«open» ≡ 0
-    pub hunted-is : t .framing .hunted ≡ 3
-    pub no-damaged : t .framing .damaged ≡ 0
-    pub no-unsynced : t .framing .unsynced ≡ 0
-    pub none-placed : t .framing .placed ≡ 0
-    pub no-broken : t .runs .broken ≡ 0
-    pub no-loose : t .runs .loose ≡ 0
-    pub none-building : t .runs .building ≡ 0
+-- the calls cs have read the reel of the major frames mss and left t
+pub record ReadBack (mss : List (List Minor)) (cs : List Call) (t : Tally) : Type 0 where
+  pub paid-is : paid cs ≡ map bytesOf mss
+  pub majors-is : t .runs .majors ≡ length mss
+  pub no-stray : t .groups .stray ≡ 0
+  pub no-split : t .groups .split ≡ 0
+  pub no-weak1 : t .groups .weak .first ≡ 0
+  pub no-weak2 : t .groups .weak .second ≡ 0
+  pub no-weak3 : t .groups .weak .third ≡ 0
+  pub none-open : t .groups .«open» ≡ 0
+  pub hunted-is : t .framing .hunted ≡ 3
+  pub no-damaged : t .framing .damaged ≡ 0
+  pub no-unsynced : t .framing .unsynced ≡ 0
+  pub none-placed : t .framing .placed ≡ 0
+  pub no-broken : t .runs .broken ≡ 0
+  pub no-loose : t .runs .loose ≡ 0
+  pub none-building : t .runs .building ≡ 0
 
-  -- a reel of 2^40 bytes at most, cut into any pieces, is read by some list of calls, none of them refused; and every list whose joined bytes
-  -- are a reel's, with any cuts and refused calls among them, has read it back
-  pub record ReelPromise : Type 0 where
-    pub some-list : (f : ℕ) (mss : List (List Minor)) → AllWhole mss → length (reel f mss) ≤ 2 ^ 40 → (a₀ : List ℕ) → length a₀ ≡ majorFrame
-        → (ps : List (List ℕ)) → concatMap (λ p. p) ps ≡ reel f mss → (r : ReadBySome vote fresh a₀ ps) × ReadBack mss (r .calls) (r .tally)
-    pub every-list : (f : ℕ) (mss : List (List Minor)) → AllWhole mss → (a₀ : List ℕ) → length a₀ ≡ majorFrame
-        → (cs : List Call) (t : Tally) (a : List ℕ) → Handed vote fresh a₀ cs t a → joined vote cs ≡ reel f mss → ReadBack mss cs t
+-- under a rule: a reel of 2^40 bytes at most, cut into any pieces, is read by some list of calls, none of them refused; and every list whose joined bytes
+-- are a reel's, with any cuts and refused calls among them, has read it back
+pub record ReelPromise (rule : ℕ) : Type 0 where
+  pub some-list : (f : ℕ) (mss : List (List Minor)) → AllWhole mss → length (reel f mss) ≤ 2 ^ 40 → (a₀ : List ℕ) → length a₀ ≡ majorFrame
+      → (ps : List (List ℕ)) → concatMap (λ p. p) ps ≡ reel f mss → (r : ReadBySome (fresh rule) a₀ ps) × ReadBack mss (r .calls) (r .tally)
+  pub every-list : (f : ℕ) (mss : List (List Minor)) → AllWhole mss → (a₀ : List ℕ) → length a₀ ≡ majorFrame
+      → (cs : List Call) (t : Tally) (a : List ℕ) → Handed (fresh rule) a₀ cs t a → joined cs ≡ reel f mss → ReadBack mss cs t

@@ -136,8 +136,10 @@ fn one_cut(reel: &[u8], frames: &[u8], piece: usize) {
 }
 
 fn fresh() -> Reading {
+    let begun = reader::fresh(1);
+    let tally = begun.tally;
     Reading {
-        tally: reader::fresh(),
+        tally: tally,
         paid: 0,
         compared: 0,
         differ: 0,

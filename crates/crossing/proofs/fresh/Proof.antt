@@ -1,4 +1,4 @@
--- `crossing::fresh` meets its contract: what the reader's `fresh` returns is the fresh tally. Assumes nothing.
+-- `crossing::fresh` meets its contract: what the reader's `fresh` returns is the fresh tally of the rule that is given. Assumes nothing.
 use Rattle.crossing.proofs.Crossed.{fresh-crossed}
 use borrow.Author.Needs.{needs}
 use Rattle.crossing.proofs.fresh.Statement.{statement}
@@ -13,7 +13,7 @@ put-tally-requires c κs = search needs
 returns : tie.Need-returns
 returns c =
     let called = c .before .before .before in
-    rw (c .put-tally .ensures .0, c .put-tally .ensures .1) (fresh-crossed _ (called .fresh .ensures .is-fresh))
+    rw (c .put-tally .ensures .0, c .put-tally .ensures .1) (fresh-crossed (called .fresh .ensures))
 
 pub fresh-spec : {M : Type 1} → statement M
 fresh-spec = tie.close (tie.spec fresh-requires put-tally-requires returns)

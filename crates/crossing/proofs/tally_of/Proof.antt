@@ -1,4 +1,4 @@
--- `crossing::tally_of` meets its contract: its parts are the layers'. Assumes nothing.
+-- `crossing::tally_of` meets its contract: its parts are the layers' and the operators'. Assumes nothing.
 use Rattle.crossing.proofs.Numbers.{passed}
 use borrow.Author.Needs.{needs}
 use Rattle.crossing.proofs.tally_of.Statement.{statement}
@@ -13,11 +13,22 @@ framing-of-requires c κs = search needs
 runs-of-requires : tie.Need-runs-of-requires
 runs-of-requires c κs = search needs
 
+operators-of-requires : tie.Need-operators-of-requires
+operators-of-requires c κs = search needs
+
 returns : tie.Need-returns
 returns c =
-    let called = c .before in
-    rw (called .runs-of .ensures, called .before .framing-of .ensures, called .before .before .groups-of .ensures)
+    let operators = c .before in
+    let runs = operators .before in
+    let framing = runs .before in
+    rw (operators .operators-of .ensures, runs .runs-of .ensures, framing .framing-of .ensures, framing .before .groups-of .ensures)
 
 pub tally-of-spec : {M : Type 1} → statement M
 tally-of-spec =
-    tie.close (tie.spec groups-of-requires framing-of-requires runs-of-requires returns)
+    tie.close
+    (tie.spec
+    groups-of-requires
+    framing-of-requires
+    runs-of-requires
+    operators-of-requires
+    returns)

@@ -8,7 +8,7 @@ fresh-requires : tie.Need-fresh-requires
 fresh-requires c κs = search needs
 
 returns : tie.Need-returns
-returns c = nothing-read (c .fresh .result) (c .fresh .ensures .is-fresh)
+returns c = nothing-read _ (c .before .fresh .ensures .is-fresh)
 
 pub begun-spec : {M : Type 1} → statement M
 begun-spec = tie.close (tie.spec fresh-requires returns)
