@@ -6,6 +6,7 @@ mod alike;
 mod bridge;
 mod bytewise;
 mod codecs;
+mod copy_errors;
 mod disorder;
 mod entry;
 mod items;
@@ -80,6 +81,7 @@ struct Seen {
     within_a_major: u64,
     paid_to: [u64; OPERATORS],
     ended_in: [u64; 17],
+    changed: copy_errors::Met,
     word72: items::Met,
 }
 
@@ -110,7 +112,7 @@ impl Seen {
     }
 
     // The cases and how often each was met.
-    fn cases(&self) -> [(&str, Vec<(&str, u64)>); 5] {
+    fn cases(&self) -> [(&str, Vec<(&str, u64)>); 6] {
         const ENDED_IN: [&str; 17] = [
             "stray", "split", "weak1", "weak2", "weak3", "open", "hunting", "match", "good", "damaged", "unsynced", "placed", "hole", "majors",
             "broken", "loose", "building",
@@ -138,6 +140,7 @@ impl Seen {
             ("changes of duty", changes),
             ("major frames paid to operator", paid_to),
             ("streams that ended with some", streams),
+            ("copies changed", self.changed.cases()),
             ("word 72", self.word72.cases()),
         ]
     }
@@ -199,6 +202,9 @@ impl Trial {
         self.fresh(seen)?;
         let longest = self.longest_piece();
         alike::trial(&mut self.r, &self.bytes, &self.start, longest)?;
+        for rule in [BY_BYTES, BY_BITS] {
+            copy_errors::trial(&mut self.r, &self.bytes, &self.start, rule, longest, &mut seen.changed)?;
+        }
         writer::trials(&mut self.r)?;
         lookup::trials(&mut self.r)?;
         codecs::trials(&mut self.r)?;
