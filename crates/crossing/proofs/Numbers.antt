@@ -52,6 +52,10 @@ eachOperator o = elements (o .paid) 0 8 ++ o .duty ∷ []
 each-operator : (o : Operators) → length (o .paid) ≡ 8 → eachOperator o ≡ operatorNumbers o
 each-operator o h = ap (λ (l : List ℕ). l ++ o .duty ∷ []) (sym (spelled (o .paid) 8 h))
 
+-- and the rule after them
+each-last : (o : Operators) (rule : ℕ) → length (o .paid) ≡ 8 → eachOperator o ++ rule ∷ [] ≡ operatorNumbers o ++ rule ∷ []
+each-last o rule h = ap (λ (l : List ℕ). l ++ rule ∷ []) (each-operator o h)
+
 -- all numbers, where the copies and the flags are these
 abbrev eachNumber : Tally → ℕ → ℕ → ℕ → ℕ → List ℕ
 eachNumber t first second hunting erasure =
@@ -67,7 +71,7 @@ eachNumber t first second hunting erasure =
 pub written-out : (t : Tally) {first second hunting erasure : ℕ} → first ≡ t .groups .first → second ≡ t .groups .second
     → hunting ≡ one (t .framing .hunting) → erasure ≡ one (t .framing .erasure) → length (t .operators .paid) ≡ 8
     → eachNumber t first second hunting erasure ≡ numbersOf t
-written-out t a b c d h = rw (a, b, c, d, each-operator (t .operators) h)
+written-out t a b c d h = rw (a, b, c, d, each-last (t .operators) (t .rule) h)
 
 -- ---- both ways
 
@@ -87,7 +91,7 @@ count-is t k =
 
 reads-back : (t : Tally) → Sized t → tallyOf (numbersOf t) (t .frame) ≡ t
 reads-back t k =
-    rw (flag-read (t .framing .hunting), flag-read (t .framing .erasure), ← each-operator (t .operators) (k .eight))
+    rw (flag-read (t .framing .hunting), flag-read (t .framing .erasure), ← each-last (t .operators) (t .rule) (k .eight))
     (ap (λ (l : List ℕ). record {
       groups = t .groups;
       framing = t .framing;

@@ -12,7 +12,8 @@ put-tally-requires c κs = search needs
 
 returns : tie.Need-returns
 returns c =
-    let called = c .before .before .before in
+    let made = c .before .before .before in
+    let called = made .before in
     rw (c .put-tally .ensures .0, c .put-tally .ensures .1) (fresh-crossed (called .fresh .ensures))
 
 pub fresh-spec : {M : Type 1} → statement M

@@ -1,4 +1,4 @@
--- `crossing::tally_of` meets its contract: its parts are the layers' and the operators'. Assumes nothing.
+-- `crossing::tally_of` meets its contract: its parts are the layers', the operators' and the rule. Assumes nothing.
 use Rattle.crossing.proofs.Numbers.{passed}
 use borrow.Author.Needs.{needs}
 use Rattle.crossing.proofs.tally_of.Statement.{statement}
@@ -16,9 +16,12 @@ runs-of-requires c κs = search needs
 operators-of-requires : tie.Need-operators-of-requires
 operators-of-requires c κs = search needs
 
+element-copy-out-t10 : tie.Need-element-copy-out-t10
+element-copy-out-t10 c = search needs
+
 returns : tie.Need-returns
 returns c =
-    let operators = c .before in
+    let operators = c .before .before in
     let runs = operators .before in
     let framing = runs .before in
     rw (operators .operators-of .ensures, runs .runs-of .ensures, framing .framing-of .ensures, framing .before .groups-of .ensures)
@@ -31,4 +34,5 @@ tally-of-spec =
     framing-of-requires
     runs-of-requires
     operators-of-requires
+    element-copy-out-t10
     returns)
