@@ -10,7 +10,7 @@ use Rattle.labelling.proofs.Demand.{once, reaches}
 use Rattle.labelling.proofs.SideBySide.{cuts-duties}
 use Rattle.labelling.proofs.BothRules.{read-alike, cuts-suffice}
 use Rattle.labelling.proofs.CopyErrors.{reach}
-use Rattle.labelling.proofs.Unharmed.{unharmed, stops-same}
+use Rattle.labelling.proofs.Unharmed.{unharmed, stops-same, reads-likewise}
 
 -- ---- the refusal
 
@@ -43,6 +43,7 @@ fresh-promise rule n r e f = rw (e, f) record {
     unharmed = unharmed (ruleGiven rule) (given-rule rule);
     cuts-suffice = cuts-duties;
     stops-same = stops-same (ruleGiven rule) (given-rule rule);
+    reads-likewise = reads-likewise (ruleGiven rule) (given-rule rule);
     not-empty = reach;
   };
 }

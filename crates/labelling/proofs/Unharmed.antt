@@ -7,7 +7,7 @@ use Prim.Native.Nat.{ℕ, _+_, _^_, _≤_, _<_}
 use native.Mathlib.Omega.{arith}
 use lib.Dec.{ltb}
 use lib.ListN.{length, take, drop, length-append, length-take, length-map, take-append-drop}
-use lib.Seq.{take-append-seam, take-append-add}
+use lib.Seq.{take-append-seam, take-append-le, take-append-add, take-take, take-all}
 use borrow.Author.Tests.{ltb-true, ltb-false}
 use Rattle.base.specs.Lists.{concatMap, one}
 use Rattle.base.proofs.Lists.{concatMap-append}
@@ -16,12 +16,13 @@ use Rattle.labelling.specs.Words.{Vote}
 use Rattle.labelling.specs.Votes.{ruleVote}
 use Rattle.labelling.specs.Machine.{fresh}
 use Rattle.labelling.specs.Order.{isRule}
-use Rattle.labelling.specs.Calls.{TakeCall, takeRefusal, answer, taken, pays, dutyAnswer, Call, takes, changes, takenBy, paidBy, joined, paid, stamped}
-use Rattle.labelling.specs.Calls.{Handed, done, accepted, changed}
+use Rattle.labelling.specs.Calls.{TakeCall, takeRefusal, answer, taken, pays, DutyCall, dutyAnswer, Call, takes, changes, takenBy, paidBy, joined, paid, stamped}
+use Rattle.labelling.specs.Calls.{Handed, done, refused, accepted, changed}
 use Rattle.labelling.specs.SideBySide.{ends, refused-here, refused-there, both-take, both-change, SameCuts, SameDuties}
-use Rattle.labelling.specs.CopyErrors.{CopyErrors, SameButCopies, SameAnswer, SameAnswers, Unharmed}
+use Rattle.labelling.specs.CopyErrors.{CopyErrors, SameButCopies, SameAnswer, SameAnswers, Unharmed, ReadLikewise}
 use Rattle.labelling.specs.Once.{majorsIn, Pays, PaysAt, Each, Once}
 use Rattle.labelling.proofs.Votes.{majority}
+use Rattle.labelling.proofs.CallLaws.{passed, duty-passed}
 use Rattle.labelling.proofs.SideBySide.{joined-refused, handed-refused, took, duty-changed, duties-append}
 use Rattle.labelling.proofs.Shifts.{joined-stamped}
 use Rattle.labelling.proofs.Reaching.{handed-append}
@@ -72,28 +73,32 @@ last-pays vote js [] c e = rw (append-nil js) (e .0)
 last-pays vote js (takes b ∷ cs) c e = rw (append-assoc js (taken b) (joined cs)) at (last-pays vote (js ++ taken b) cs c (e .1))
 last-pays vote js (changes b ∷ cs) c e = last-pays vote js cs c e
 
--- after js and js′ the calls c and d have as many bytes, and as far as k of them there are the same major frames: d takes no more than c
-no-sooner : {vote : Vote} {js js′ : List ℕ} {c d : TakeCall} → takeRefusal c ≡ 0 → PaysAt vote js c → PaysAt vote js′ d → length (d .piece) ≡ length (c .piece)
-    → ((k : ℕ) → majorsIn vote (js′ ++ take k (d .piece)) ≡ majorsIn vote (js ++ take k (c .piece))) → answer d .taken ≤ answer c .taken
+-- after js and js′ there are the same major frames, as far as the calls c and d go: what d takes and c is handed, c takes too
+no-sooner : {vote : Vote} {js js′ : List ℕ} {c d : TakeCall} → takeRefusal c ≡ 0 → PaysAt vote js c → PaysAt vote js′ d
+    → answer d .taken ≤ length (c .piece)
+    → ((k : ℕ) → k ≤ answer c .taken → majorsIn vote (js′ ++ take k (d .piece)) ≡ majorsIn vote (js ++ take k (c .piece))) → answer d .taken ≤ answer c .taken
 unfolding taken
-no-sooner {vote} {js} {js′} {c} {d} r p q long same = go (ltb (answer c .taken) (answer d .taken)) refl
+no-sooner {vote} {js} {js′} {c} {d} r p q few same = go (ltb (answer c .taken) (answer d .taken)) refl
   where
     n : ℕ
     n = answer c .taken
 
     stops : (e : Bool) → answer c .complete ≡ e → n < answer d .taken → ⊥
-    stops false e h =
-        omega (arith, p .count-is, q .count-is, ap length (p .accepted-all r e), length-take (answer d .taken) (d .piece))
+    stops false e h = omega (arith, p .count-is, ap length (p .accepted-all r e))
     stops true e h =
         let one-new = rw e at (p .holds) in
         let none-new : majorsIn vote (js ++ take n (c .piece)) ≡ majorsIn vote js =
-        sym (same n) ∙ q .before n h ∙ rw (append-nil js, append-nil js′) at (same 0) in
+        sym (same n (omega arith)) ∙ q .before n h ∙ rw (append-nil js, append-nil js′) at (same 0 (omega arith)) in
         let more = length-append (majorsIn vote js) (p .new) in
         omega (arith, ap length (p .after), ap length none-new, more, ap length (one-new .1))
 
     go : (e : Bool) → ltb n (answer d .taken) ≡ e → answer d .taken ≤ n
     go true e = absurd (stops (answer c .complete) refl (ltb-true n (answer d .taken) e))
     go false e = ltb-false n (answer d .taken) e
+
+taken-few : {vote : Vote} {js : List ℕ} {c : TakeCall} → PaysAt vote js c → answer c .taken ≤ length (c .piece)
+unfolding taken
+taken-few {c = c} p = omega (arith, p .count-is, length-take (answer c .taken) (c .piece))
 
 -- as many bytes are taken
 as-long : {cs ds : List Call} → SameDuties cs ds → length (joined ds) ≡ length (joined cs)
@@ -160,18 +165,16 @@ module _ (rule : ℕ) (is-rule : isRule rule ≡ true) (a₀ : List ℕ) (whole 
 
   -- ---- the next call on each
 
-  -- after the calls cs, one on the piece p is accepted, and demand 3 says what it pays
-  module _ {cs : List Call} {t : Tally} {a : List ℕ} (h : Handed (fresh rule) a₀ cs t a) (p : List ℕ) (fits : length (joined cs) + length p ≤ 2 ^ 40) where
-    next-accepted : takeRefusal (callOn t p a) ≡ 0
-    next-accepted = once rule is-rule a₀ whole cs t a h .goes-on p fits
+  -- after the calls cs one on the piece p is accepted
+  next-accepted : {cs : List Call} {t : Tally} {a : List ℕ} → Handed (fresh rule) a₀ cs t a → (p : List ℕ) → length (joined cs) + length p ≤ 2 ^ 40
+      → takeRefusal (callOn t p a) ≡ 0
+  next-accepted {cs} {t} {a} h p fits = once rule is-rule a₀ whole cs t a h .goes-on p fits
 
-    next-handed : Handed t a (takes (callOn t p a) ∷ []) (answer (callOn t p a) .tally) (answer (callOn t p a) .area)
-    next-handed = accepted (callOn t p a) next-accepted done
-
-    next-pays : PaysAt (ruleVote rule) (joined cs) (callOn t p a)
-    next-pays =
-        let o = once rule is-rule a₀ whole (cs ++ takes (callOn t p a) ∷ []) _ _ (handed-append h next-handed) in
-        last-pays (ruleVote rule) [] cs (callOn t p a) (o .each)
+  -- and demand 3 says what an accepted one pays
+  next-pays : {cs : List Call} (c : TakeCall) → Handed (fresh rule) a₀ cs (c .tally) (c .area) → takeRefusal c ≡ 0 → PaysAt (ruleVote rule) (joined cs) c
+  next-pays {cs} c h e =
+      let o = once rule is-rule a₀ whole (cs ++ takes c ∷ []) _ _ (handed-append h (accepted c e done)) in
+      last-pays (ruleVote rule) [] cs c (o .each)
 
   -- over streams that go on with the same words it stops at the same byte
   module _ {cs ds : List Call} {t u : Tally} {a b : List ℕ} (x : SoFar cs ds t u a b) (p p′ : List ℕ)
@@ -188,16 +191,22 @@ module _ (rule : ℕ) (is-rule : isRule rule ≡ true) (a₀ : List ℕ) (whole 
         rw (take-append-add (joined cs) p k, ← as-long (x .duties), take-append-add (joined ds) p′ k)
         at (same-majors (ruleVote rule) (same-front (ruleVote rule) (length (joined cs) + k) s))
 
+    here-accepted : takeRefusal (callOn t p a) ≡ 0
+    here-accepted = next-accepted (x .here) p fits
+
+    there-accepted : takeRefusal (callOn u p′ b) ≡ 0
+    there-accepted = next-accepted (x .there) p′ fits-there
+
     same-stop : answer (callOn u p′ b) .taken ≡ answer (callOn t p a) .taken
     same-stop =
-        let r = next-accepted (x .here) p fits in
-        let r′ = next-accepted (x .there) p′ fits-there in
-        let pays = next-pays (x .here) p fits in
-        let pays′ = next-pays (x .there) p′ fits-there in
+        let pays = next-pays (callOn t p a) (x .here) here-accepted in
+        let pays′ = next-pays (callOn u p′ b) (x .there) there-accepted in
+        let few = taken-few pays in
+        let few′ = taken-few pays′ in
         omega (
           arith,
-          no-sooner r pays pays′ as-many-more same-majors-at,
-          no-sooner r′ pays′ pays (sym as-many-more) (λ k. sym (same-majors-at k)),
+          no-sooner here-accepted pays pays′ (omega (arith, as-many-more)) (λ k h. same-majors-at k),
+          no-sooner there-accepted pays′ pays (omega (arith, as-many-more)) (λ k h. sym (same-majors-at k)),
         )
 
     next-same : SameAnswer (callOn t p a) (callOn u p′ b)
@@ -205,8 +214,8 @@ module _ (rule : ℕ) (is-rule : isRule rule ≡ true) (a₀ : List ℕ) (whole 
     next-same =
         let c = callOn t p a in
         let d = callOn u p′ b in
-        let both = both-take c d (next-accepted (x .here) p fits) (next-accepted (x .there) p′ fits-there) same-stop ends in
-        let next = more x (next-handed (x .here) p fits) (next-handed (x .there) p′ fits-there) both in
+        let both = both-take c d here-accepted there-accepted same-stop ends in
+        let next = more x (accepted c here-accepted done) (accepted d there-accepted done) both in
         let n = answer c .taken in
         let m = answer d .taken in
         answers-same x (drop n p) (drop m p′) c d next same-stop
@@ -237,6 +246,109 @@ module _ (rule : ℕ) (is-rule : isRule rule ≡ true) (a₀ : List ℕ) (whole 
       let next = more x first second (both-change c d r r′ same ends) in
       let s′ = after-both (changes c) (changes d) cs ds rest rest′ s in
       both-change c d r r′ (left-same (joined rest) (joined rest′) next s′ .tally-left) (each-same k next (p .rest) (q .rest) s′)
+
+  -- ---- the same calls over the other stream
+
+  -- a call, and one on as many bytes of the other stream as it takes
+  module _ {cs ds : List Call} {u : Tally} {b : List ℕ} (c : TakeCall) (e : takeRefusal c ≡ 0) (x : SoFar cs ds (c .tally) u (c .area) b) (bs bs′ : List ℕ)
+      (s : SameWords (ruleVote rule) (joined cs ++ (taken c ++ bs)) (joined ds ++ bs′)) where
+    abbrev count : ℕ
+    count = answer c .taken
+
+    abbrev again : TakeCall
+    again = callOn u (take count bs′) b
+
+    pays-first : PaysAt (ruleVote rule) (joined cs) c
+    pays-first = next-pays c (x .here) e
+
+    long-enough : length (take count bs′) ≡ count
+    long-enough =
+        let whole = same-length (ruleVote rule) s in
+        let after = length-append (joined cs) (taken c ++ bs) in
+        omega (arith, whole, after, length-append (joined ds) bs′, length-append (taken c) bs, as-long (x .duties), pays-first .count-is, length-take count bs′)
+
+    again-accepted : takeRefusal again ≡ 0
+    again-accepted =
+        let bytes = once rule is-rule a₀ whole cs (c .tally) (c .area) (x .here) .counts .bytes-is in
+        next-accepted (x .there) (take count bs′) (omega (arith, long-enough, as-long (x .duties), bytes, passed c e .fits, taken-few pays-first))
+
+    pays-again : PaysAt (ruleVote rule) (joined ds) again
+    pays-again = next-pays again (x .there) again-accepted
+
+    majors-at : (k : ℕ) → k ≤ count → majorsIn (ruleVote rule) (joined cs ++ take k (c .piece)) ≡ majorsIn (ruleVote rule) (joined ds ++ take k (take count bs′))
+    unfolding taken
+    majors-at k h =
+        let front = same-majors (ruleVote rule) (same-front (ruleVote rule) (length (joined cs) + k) s) in
+        sym (rw (
+          take-append-add (joined cs) (taken c ++ bs) k,
+          take-append-le k (taken c) bs (omega (arith, pays-first .count-is)),
+          take-take k count (c .piece) h,
+          ← as-long (x .duties),
+          take-append-add (joined ds) bs′ k,
+          ← take-take k count bs′ h,
+        )
+        at front)
+
+    as-many-again : answer again .taken ≡ count
+    as-many-again =
+        omega (
+          arith,
+          taken-few pays-again,
+          long-enough,
+          no-sooner again-accepted pays-again pays-first (omega (arith, long-enough)) (λ k h. majors-at k (omega (arith, taken-few pays-again, long-enough))),
+        )
+
+    again-takes : taken again ≡ take count bs′
+    unfolding taken
+    again-takes = take-all (answer again .taken) (take count bs′) (omega (arith, as-many-again, long-enough))
+
+  -- the bytes are at an end
+  no-more : (u : Tally) (b bs : List ℕ) → length bs ≡ 0 → ReadLikewise u b [] bs
+  unfolding joined
+  no-more u b [] e = record { calls = []; tally = u; area = b; handed = done; cuts = ends; joined-is = refl }
+  no-more u b (y ∷ bs) e = absurd (omega arith)
+
+  reread : {cs ds cs′ : List Call} {t u t′ : Tally} {a b a′ : List ℕ} (bs : List ℕ) → SoFar cs ds t u a b → Handed t a cs′ t′ a′
+      → SameWords (ruleVote rule) (joined cs ++ joined cs′) (joined ds ++ bs) → ReadLikewise u b cs′ bs
+  unfolding joined taken
+  reread {cs} {ds} {u = u} {b = b} bs x done s =
+      no-more u b bs (omega (arith, same-length (ruleVote rule) s, length-append (joined cs) [], length-append (joined ds) bs, as-long (x .duties)))
+  reread bs x (refused {cs = rest} c n e h) s =
+      let r = reread bs x h (rw (joined-refused c rest n e) at s) in
+      record { calls = r .calls; tally = r .tally; area = r .area; handed = r .handed; cuts = refused-here c n e (r .cuts); joined-is = r .joined-is }
+  reread {cs} {ds} {u = u} {b = b} bs x (accepted {cs = rest} c e h) s =
+      let n = answer c .taken in
+      let d = callOn u (take n bs) b in
+      let ok = again-accepted c e x (joined rest) bs s in
+      let same = as-many-again c e x (joined rest) bs s in
+      let takes-it = again-takes c e x (joined rest) bs s in
+      let next = more x (accepted c e done) (accepted d ok done) (both-take c d e ok same ends) in
+      let s′ : SameWords (ruleVote rule) (joined (cs ++ takes c ∷ []) ++ joined rest) (joined (ds ++ takes d ∷ []) ++ drop n bs) =
+      rw (joined-more cs (takes c) (joined rest), joined-more ds (takes d) (drop n bs), takes-it, take-append-drop n bs) s in
+      let r = reread (drop n bs) next h s′ in
+      record {
+        calls = takes d ∷ r .calls;
+        tally = r .tally;
+        area = r .area;
+        handed = accepted {cs = r .calls} d ok (r .handed);
+        cuts = both-take c d e ok same (r .cuts);
+        joined-is = rw (joined-first (takes d) (r .calls), takes-it, r .joined-is) (take-append-drop n bs);
+      }
+  reread {cs} {ds} {u = u} {b = b} bs x (changed {cs = rest} c e h) s =
+      let d : DutyCall = record { tally = u; operator = c .operator } in
+      let ok = once rule is-rule a₀ whole ds u b (x .there) .changes-on (c .operator) (duty-passed c e .is-operator) in
+      let next = more x (changed c e done) (changed d ok done) (both-change c d e ok refl ends) in
+      let s′ : SameWords (ruleVote rule) (joined (cs ++ changes c ∷ []) ++ joined rest) (joined (ds ++ changes d ∷ []) ++ bs) =
+      rw (joined-more cs (changes c) (joined rest), joined-more ds (changes d) bs) s in
+      let r = reread bs next h s′ in
+      record {
+        calls = changes d ∷ r .calls;
+        tally = r .tally;
+        area = r .area;
+        handed = changed d ok (r .handed);
+        cuts = both-change c d e ok refl (r .cuts);
+        joined-is = rw (joined-first (changes d) (r .calls)) (r .joined-is);
+      }
 
   -- ---- the claim
 
@@ -277,3 +389,9 @@ module _ (rule : ℕ) (is-rule : isRule rule ≡ true) (a₀ : List ℕ) (whole 
       )
       at front in
       next-same x p p′ s fits
+
+  pub reads-likewise : (cs : List Call) (t : Tally) (a bs : List ℕ) → Handed (fresh rule) a₀ cs t a → CopyErrors (joined cs) bs
+      → ReadLikewise (fresh rule) a₀ cs bs
+  unfolding joined
+  reads-likewise cs t a bs h e =
+      reread bs (record { here = done; there = done; duties = record { as-taken = refl; at-the-end = refl } }) h (words-stay (majority rule) e)

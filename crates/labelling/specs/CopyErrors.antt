@@ -129,6 +129,15 @@ pub record Unharmed (cs ds : List Call) (t u : Tally) (a b : List ℕ) : Type 0 
   -- and so it is call by call, where the cuts are the same
   pub each-call : SameCuts cs ds → SameAnswers cs ds
 
+-- some list of calls from r and a₀ with the cuts and shifts of cs takes the bytes bs
+pub record ReadLikewise (r : Tally) (a₀ : List ℕ) (cs : List Call) (bs : List ℕ) : Type 0 where
+  pub calls : List Call
+  pub tally : Tally
+  pub area : List ℕ
+  pub handed : Handed r a₀ calls tally area
+  pub cuts : SameCuts cs calls
+  pub joined-is : joined calls ≡ bs
+
 -- ---- the promise
 
 -- from the tally r, with the same area, cuts and shifts before and after: of the cuts only the last field of `Unharmed` speaks
@@ -142,5 +151,8 @@ pub record CopyErrorsPromise (r : Tally) : Type 0 where
       → SameDuties cs ds → (p p′ q q′ : List ℕ) → CopyErrors (joined cs ++ (p ++ q)) (joined ds ++ (p′ ++ q′)) → length p′ ≡ length p
       → length (joined cs) + length p ≤ 2 ^ 40
       → SameAnswer (record { tally = t; piece = p; area = a }) (record { tally = u; piece = p′; area = b })
+  -- so the stream with copy errors is read so
+  pub reads-likewise : (a₀ : List ℕ) → length a₀ ≡ majorFrame → (cs : List Call) (t : Tally) (a bs : List ℕ) → Handed r a₀ cs t a
+      → CopyErrors (joined cs) bs → ReadLikewise r a₀ cs bs
   -- and there are such streams
   pub not-empty : CopyErrorsReach
