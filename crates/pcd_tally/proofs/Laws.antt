@@ -23,7 +23,7 @@ use Rattle.labelling.proofs.Demand.{once}
 use Rattle.labelling.proofs.Promised.{rule-known}
 use Rattle.reader.specs.Shapes.{callOf}
 use Rattle.feeding.specs.declared.Fed.{Fed}
-use Rattle.feeding.specs.Promise.{FeedPromise}
+use Rattle.feeding.specs.Promise.{asCalls, FeedPromise}
 use Rattle.feeding.proofs.CallLists.{joined-none}
 use Rattle.pcd_tally.specs.declared.Input.{Input}
 use Rattle.pcd_tally.specs.declared.Input.the-variants.{More, Ended, Unreadable, TooLong}
@@ -105,7 +105,7 @@ module _ (s : State) (piece old new : List ℕ) (f : Fed) (h : ReadSoFar (s .rea
           record {
             input-is = rw e;
             carried = rw e (record {
-              calls = p .calls;
+              calls = asCalls (p .calls);
               handed = p .handed;
               joined-is = p .joined-is ∙ rw (all, take-length);
               read-is = rw all;

@@ -1,6 +1,7 @@
 // Reads the streams of standard input in pieces and writes what comes of each: what tests/reader_vectors.py makes, with the answers that it
 // worked out by other means.
 mod report;
+mod shifts;
 
 ghost use mathlib.Core.Path.{_≡_};
 ghost use Prim.Native.Nat.{_≤_};
@@ -10,6 +11,7 @@ use base::refusal::WRONG_LENGTH;
 use feeding::Stepped;
 use labelling::Tally;
 use reader::Taken;
+use shifts::Shifts;
 use vectors::filled;
 use vectors::mix;
 use vectors::number;
@@ -26,6 +28,7 @@ pub(crate) struct Reading {
     // How many calls were refused 2 as they must be, and how many of those had another answer.
     pub(crate) refused: u64,
     pub(crate) otherwise: u64,
+    pub(crate) shifts: Shifts,
 }
 
 fn main() {
@@ -40,7 +43,7 @@ fn main() {
 
 // Reads a record and runs it; false at the end of the input.
 fn turn() -> bool {
-    let mut header = [0u8; 36];
+    let mut header = [0u8; 108];
     if !filled(&mut header) {
         return false;
     }
@@ -53,51 +56,55 @@ fn turn() -> bool {
     if !filled(&mut *stream) {
         return false;
     }
-    every_cut(stream, &header[4..36]);
+    let s = shifts::begun(&header[36..100]);
+    let rule = number(&header[100..108]);
+    every_cut(stream, &header[4..36], s, rule);
     true
 }
 
-// Reads the stream in pieces of each of these eight lengths.
-fn every_cut(stream: &[u8], lengths: &[u8])
+// Reads the stream by the rule in pieces of each of these eight lengths.
+fn every_cut(stream: &[u8], lengths: &[u8], s: Shifts, rule: u64)
     requires { ⌜ 32 ≤ length (now lengths) ⌝ }
 {
-    one_cut(stream, &lengths[0..4]);
-    one_cut(stream, &lengths[4..8]);
-    one_cut(stream, &lengths[8..12]);
-    one_cut(stream, &lengths[12..16]);
-    one_cut(stream, &lengths[16..20]);
-    one_cut(stream, &lengths[20..24]);
-    one_cut(stream, &lengths[24..28]);
-    one_cut(stream, &lengths[28..32]);
+    one_cut(stream, &lengths[0..4], s, rule);
+    one_cut(stream, &lengths[4..8], s, rule);
+    one_cut(stream, &lengths[8..12], s, rule);
+    one_cut(stream, &lengths[12..16], s, rule);
+    one_cut(stream, &lengths[16..20], s, rule);
+    one_cut(stream, &lengths[20..24], s, rule);
+    one_cut(stream, &lengths[24..28], s, rule);
+    one_cut(stream, &lengths[28..32], s, rule);
 }
 
 // Reads the stream in pieces of this length; 0 is no length.
-fn one_cut(stream: &[u8], length: &[u8]) {
+fn one_cut(stream: &[u8], length: &[u8], s: Shifts, rule: u64) {
     let piece = number(length) as usize;
     if piece == 0 {
         return;
     }
-    report::heading(stream.len(), piece);
+    let begun = reader::fresh(rule);
+    report::heading(stream.len(), piece, rule, begun.refusal);
     let mut space = [0u8; 16384];
     let area: &mut [u8] = &mut space;
-    let r = read_stream(stream, piece, &mut *area);
+    let r = read_stream(reading(begun.tally, s), stream, piece, &mut *area);
     report::whole(r, area);
 }
 
-fn fresh() -> Reading {
+fn reading(t: Tally, s: Shifts) -> Reading {
     Reading {
-        tally: reader::fresh(),
+        tally: t,
         calls: 0,
         answers: 0,
         refused: 0,
         otherwise: 0,
+        shifts: s,
     }
 }
 
-fn read_stream(stream: &[u8], piece: usize, area: &mut [u8]) -> Reading
+fn read_stream(begun: Reading, stream: &[u8], piece: usize, area: &mut [u8]) -> Reading
     requires { ⌜ length (now area) ≡ 16384 ⌝ }
 {
-    let mut r = probe(fresh(), &mut *area);
+    let mut r = probe(begun, &mut *area);
     let mut at: usize = 0;
     while at < stream.len() {
         let t = r.tally;
@@ -125,8 +132,15 @@ fn stepped(r: Reading, s: Stepped, area: &mut [u8]) -> Reading
     probe(next, area)
 }
 
-// Two calls that leave all as it is: a piece of no bytes is taken, and an area that is a byte too short is refused.
+// Between two pieces the next operator is named, after two calls that leave all as it is.
 fn probe(r: Reading, area: &mut [u8]) -> Reading
+    requires { ⌜ length (now area) ≡ 16384 ⌝ }
+{
+    shifts::changed(idle(r, area))
+}
+
+// Two calls that leave all as it is: a piece of no bytes is taken, and an area that is a byte too short is refused.
+fn idle(r: Reading, area: &mut [u8]) -> Reading
     requires { ⌜ length (now area) ≡ 16384 ⌝ }
 {
     let piece = [0x16u8; 3];
@@ -141,12 +155,14 @@ fn probe(r: Reading, area: &mut [u8]) -> Reading
 // The reading after a call that must take its piece.
 fn answered(r: Reading, a: Taken) -> Reading {
     let t = a.tally;
+    let s = r.shifts;
     Reading {
         tally: t,
         calls: sum(r.calls, 1),
         answers: mixed(r.answers, a),
         refused: r.refused,
         otherwise: r.otherwise,
+        shifts: s,
     }
 }
 
@@ -159,6 +175,7 @@ fn mixed(h: u64, a: Taken) -> u64 {
 // The reading after a call that must be refused 2.
 fn refused(r: Reading, a: Taken) -> Reading {
     let t = a.tally;
+    let s = r.shifts;
     if is_refused(a) {
         return Reading {
             tally: t,
@@ -166,6 +183,7 @@ fn refused(r: Reading, a: Taken) -> Reading {
             answers: r.answers,
             refused: sum(r.refused, 1),
             otherwise: r.otherwise,
+            shifts: s,
         };
     }
     Reading {
@@ -174,6 +192,7 @@ fn refused(r: Reading, a: Taken) -> Reading {
         answers: r.answers,
         refused: r.refused,
         otherwise: sum(r.otherwise, 1),
+        shifts: s,
     }
 }
 

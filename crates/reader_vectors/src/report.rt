@@ -1,15 +1,20 @@
 // What is written of a stream.
 use crate::Reading;
+use crate::shifts::Shifts;
 use base::wide;
+use labelling::Operators;
 use labelling::Tally;
 use vectors::bit;
 use vectors::checksum;
 use vectors::field;
 use vectors::put;
 
-pub(crate) fn heading(length: usize, piece: usize) {
+// Which rule was asked for, and whether that was refused.
+pub(crate) fn heading(length: usize, piece: usize, rule: u64, refusal: u8) {
     field(b"stream of ", length as u64);
     field(b" bytes in pieces of ", piece as u64);
+    field(b" by rule ", rule);
+    field(b" refused ", wide(refusal));
     put(b"\n");
 }
 
@@ -27,12 +32,35 @@ pub(crate) fn whole(r: Reading, area: &[u8]) {
     groups(t);
     framing(t);
     runs(t);
+    paid_to(t.operators, t.rule);
     kept(t);
     field(b"area ", checksum(area));
     field(b" calls ", r.calls);
     field(b" answers ", r.answers);
-    field(b" refused 2: ", r.refused);
+    counted(r.shifts, r.refused);
     field(b" otherwise: ", r.otherwise);
+    put(b"\n");
+}
+
+fn counted(s: Shifts, refused: u64) {
+    field(b" changed ", s.changed);
+    field(b" refused 2: ", refused);
+    field(b" refused 14: ", s.refused);
+}
+
+// The operators' counts, who is on duty, and the rule.
+fn paid_to(o: Operators, rule: u64) {
+    let p = o.paid;
+    field(b"paid to ", p[0]);
+    field(b" ", p[1]);
+    field(b" ", p[2]);
+    field(b" ", p[3]);
+    field(b" ", p[4]);
+    field(b" ", p[5]);
+    field(b" ", p[6]);
+    field(b" ", p[7]);
+    field(b" duty ", o.duty);
+    field(b" rule ", rule);
     put(b"\n");
 }
 

@@ -13,16 +13,13 @@ Inv-loop stream piece area₀ r₀ at₀ area r at = length area ≡ 16384
 abbrev μ-loop : tie.MeasureT-loop
 μ-loop stream piece area₀ r₀ at₀ area r at = length stream - at
 
-fresh-requires : tie.Need-fresh-requires Inv-loop μ-loop
-fresh-requires c κs = tt
-
 probe-requires : tie.Need-probe-requires Inv-loop μ-loop
-probe-requires c κs = c .before .before .before .before .pre
+probe-requires c κs = c .before .before .before .pre
 
 -- the start, from the first probe
 module _ (probed : tie.After-probe Inv-loop μ-loop) where
   abbrev before-probe : tie.Start Inv-loop μ-loop
-  before-probe = probed .before .before .before .before .before
+  before-probe = probed .before .before .before .before
 
 loop-holds : tie.Need-loop-holds Inv-loop μ-loop
 loop-holds c = let probed = c .before .before in probed .probe .kept .1 .0 ∙ before-probe probed .pre
@@ -80,7 +77,6 @@ read-stream-spec =
     (tie.spec
     Inv-loop
     μ-loop
-    fresh-requires
     probe-requires
     loop-holds
     step-requires
