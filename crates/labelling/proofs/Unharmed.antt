@@ -330,7 +330,7 @@ module _ (rule : ℕ) (is-rule : isRule rule ≡ true) (a₀ : List ℕ) (whole 
         calls = takes d ∷ r .calls;
         tally = r .tally;
         area = r .area;
-        handed = accepted {cs = r .calls} d ok (r .handed);
+        handed = accepted {t′ = r .tally} {a′ = r .area} {cs = r .calls} d ok (r .handed);
         cuts = both-take c d e ok same (r .cuts);
         joined-is = rw (joined-first (takes d) (r .calls), takes-it, r .joined-is) (take-append-drop n bs);
       }

@@ -57,7 +57,7 @@ changedAt n bs cs = differences (copiesAt n bs) (copiesAt n cs)
 
 -- ---- there are such changes
 
--- bs with one group between others
+-- the bytes of the group g between others
 abbrev pub withGroup : List Group → Group → List Group → List ℕ
 withGroup before g after = concatMap bytesOf (before ++ g ∷ after)
 
