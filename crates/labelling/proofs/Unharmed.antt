@@ -16,7 +16,7 @@ use Rattle.labelling.specs.Words.{Vote}
 use Rattle.labelling.specs.Votes.{ruleVote}
 use Rattle.labelling.specs.Machine.{fresh}
 use Rattle.labelling.specs.Order.{isRule}
-use Rattle.labelling.specs.Calls.{TakeCall, takeRefusal, answer, taken, pays, DutyCall, dutyAnswer, Call, takes, changes, takenBy, paidBy, joined, paid, stamped}
+use Rattle.labelling.specs.Calls.{TakeCall, takeRefusal, answer, taken, pays, DutyCall, dutyRefusal, dutyAnswer, Call, takes, changes, takenBy, paidBy, joined, paid, stamped}
 use Rattle.labelling.specs.Calls.{Handed, done, refused, accepted, changed}
 use Rattle.labelling.specs.SideBySide.{ends, refused-here, refused-there, both-take, both-change, SameCuts, SameDuties}
 use Rattle.labelling.specs.CopyErrors.{CopyErrors, SameButCopies, SameAnswer, SameAnswers, Unharmed, ReadLikewise}
@@ -308,6 +308,30 @@ module _ (rule : ℕ) (is-rule : isRule rule ≡ true) (a₀ : List ℕ) (whole 
   no-more u b [] e = record { calls = []; tally = u; area = b; handed = done; cuts = ends; joined-is = refl }
   no-more u b (y ∷ bs) e = absurd (omega arith)
 
+  -- one call before the others
+  take-first : {cs : List Call} {bs : List ℕ} (c d : TakeCall) → takeRefusal c ≡ 0 → takeRefusal d ≡ 0 → answer d .taken ≡ answer c .taken
+      → taken d ≡ take (answer c .taken) bs → ReadLikewise (answer d .tally) (answer d .area) cs (drop (answer c .taken) bs)
+      → ReadLikewise (d .tally) (d .area) (takes c ∷ cs) bs
+  take-first {bs = bs} c d e ok same takes-it r = record {
+    calls = takes d ∷ r .calls;
+    tally = r .tally;
+    area = r .area;
+    handed = accepted d ok (r .handed);
+    cuts = both-take c d e ok same (r .cuts);
+    joined-is = rw (joined-first (takes d) (r .calls), takes-it, r .joined-is) (take-append-drop (answer c .taken) bs);
+  }
+
+  change-first : {cs : List Call} {b bs : List ℕ} (c d : DutyCall) → dutyRefusal c ≡ 0 → dutyRefusal d ≡ 0 → d .operator ≡ c .operator
+      → ReadLikewise (dutyAnswer d) b cs bs → ReadLikewise (d .tally) b (changes c ∷ cs) bs
+  change-first c d e ok same r = record {
+    calls = changes d ∷ r .calls;
+    tally = r .tally;
+    area = r .area;
+    handed = changed d ok (r .handed);
+    cuts = both-change c d e ok same (r .cuts);
+    joined-is = rw (joined-first (changes d) (r .calls)) (r .joined-is);
+  }
+
   reread : {cs ds cs′ : List Call} {t u t′ : Tally} {a b a′ : List ℕ} (bs : List ℕ) → SoFar cs ds t u a b → Handed t a cs′ t′ a′
       → SameWords (ruleVote rule) (joined cs ++ joined cs′) (joined ds ++ bs) → ReadLikewise u b cs′ bs
   unfolding joined taken
@@ -325,30 +349,14 @@ module _ (rule : ℕ) (is-rule : isRule rule ≡ true) (a₀ : List ℕ) (whole 
       let next = more x (accepted c e done) (accepted d ok done) (both-take c d e ok same ends) in
       let s′ : SameWords (ruleVote rule) (joined (cs ++ takes c ∷ []) ++ joined rest) (joined (ds ++ takes d ∷ []) ++ drop n bs) =
       rw (joined-more cs (takes c) (joined rest), joined-more ds (takes d) (drop n bs), takes-it, take-append-drop n bs) s in
-      let r = reread (drop n bs) next h s′ in
-      record {
-        calls = takes d ∷ r .calls;
-        tally = r .tally;
-        area = r .area;
-        handed = accepted {t′ = r .tally} {a′ = r .area} {cs = r .calls} d ok (r .handed);
-        cuts = both-take c d e ok same (r .cuts);
-        joined-is = rw (joined-first (takes d) (r .calls), takes-it, r .joined-is) (take-append-drop n bs);
-      }
+      take-first c d e ok same takes-it (reread (drop n bs) next h s′)
   reread {cs} {ds} {u = u} {b = b} bs x (changed {cs = rest} c e h) s =
       let d : DutyCall = record { tally = u; operator = c .operator } in
       let ok = once rule is-rule a₀ whole ds u b (x .there) .changes-on (c .operator) (duty-passed c e .is-operator) in
       let next = more x (changed c e done) (changed d ok done) (both-change c d e ok refl ends) in
       let s′ : SameWords (ruleVote rule) (joined (cs ++ changes c ∷ []) ++ joined rest) (joined (ds ++ changes d ∷ []) ++ bs) =
       rw (joined-more cs (changes c) (joined rest), joined-more ds (changes d) bs) s in
-      let r = reread bs next h s′ in
-      record {
-        calls = changes d ∷ r .calls;
-        tally = r .tally;
-        area = r .area;
-        handed = changed d ok (r .handed);
-        cuts = both-change c d e ok refl (r .cuts);
-        joined-is = rw (joined-first (changes d) (r .calls)) (r .joined-is);
-      }
+      change-first c d e ok refl (reread bs next h s′)
 
   -- ---- the claim
 
