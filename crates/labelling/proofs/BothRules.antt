@@ -7,9 +7,9 @@ use mathlib.Core.List.{List, [], _∷_, _++_, map}
 use mathlib.Core.Option.{some}
 use Prim.Native.Nat.{ℕ, zero, suc, _+_, _*_, _≤_}
 use native.Mathlib.Omega.{arith}
-use lib.Dec.{eqb, eqb·suc-zero}
+use lib.Dec.{eqb}
 use lib.ListN.{length, take, drop}
-use lib.Seq.{length-take-le, take-append-seam, drop-append-seam}
+use lib.Seq.{take-append-seam, drop-append-seam}
 use borrow.Author.Tests.{ne-eqb}
 use Rattle.base.specs.Lists.{concatMap}
 use Rattle.labelling.specs.declared.Groups.{Groups}
@@ -21,7 +21,7 @@ use Rattle.labelling.specs.Votes.{ruleVote, Majority}
 use Rattle.labelling.specs.Machine.{closes, afterByte, State, stateOf, withRule, fresh, Now, wordStep, wordGiven, byteEvent, byteStep}
 use Rattle.labelling.specs.Order.{inOrder}
 use Rattle.labelling.specs.Calls.{TakeCall, takeRefusal, Progress, andOne, answerWith, feed, answer, taken, pays}
-use Rattle.labelling.specs.Calls.{DutyCall, dutyRefusal, dutyAnswer, Call, takes, changes, refusalOf, dutyAfter, lastDuty, takenBy, paidBy}
+use Rattle.labelling.specs.Calls.{DutyCall, dutyRefusal, dutyAnswer, Call, takes, changes, refusalOf, lastDuty, paidBy}
 use Rattle.labelling.specs.Calls.{joined, paid, stamped, Handed, done, refused, accepted, changed}
 use Rattle.labelling.specs.SideBySide.{ends, refused-here, refused-there, both-take, both-change, SameCuts}
 use Rattle.labelling.specs.BothRules.{SameShifts, underRule, SameAnswers, Alike}
@@ -29,9 +29,9 @@ use Rattle.labelling.specs.Once.{majorsIn, Once}
 use Rattle.labelling.proofs.Votes.{majority, same-word}
 use Rattle.labelling.proofs.Ordered.{split-grows, TallyOrdered, tally-ordered, tally-in-order}
 use Rattle.labelling.proofs.Feeding.{feed-complete, feed-more, feed-taken, feed-grows}
-use Rattle.labelling.proofs.CallLaws.{Passed, passed, no-refusal, refused-answer, refused-taken, accepted-under, accepted-extent, accepted-rule}
+use Rattle.labelling.proofs.CallLaws.{Passed, passed, no-refusal, refused-answer, accepted-under, accepted-rule}
 use Rattle.labelling.proofs.CallLaws.{duty-passed, duty-no-refusal, duty-accepted, duty-rule}
-use Rattle.labelling.proofs.SideBySide.{refused-takes, refused-stays, joined-refused, taken-length, handed-refused, took, duty-changed}
+use Rattle.labelling.proofs.SideBySide.{refused-takes, refused-stays, joined-refused, taken-length, handed-refused, took, duty-changed, cuts-duties}
 use Rattle.labelling.proofs.Shifts.{joined-stamped}
 use Rattle.labelling.proofs.Demand.{once}
 
@@ -233,21 +233,24 @@ unfolding joined
 taken-same cs ds c d e f same j =
     parts-same (taken d) (joined ds) (taken c) (joined cs) (taken-length d f ∙ same ∙ sym (taken-length c e)) j
 
-cuts-stamped : (k : ℕ) {cs ds : List Call} → SameCuts cs ds → joined ds ≡ joined cs → (stamped k ds ≡ stamped k cs) × (lastDuty k ds ≡ lastDuty k cs)
-unfolding joined
-cuts-stamped k ends j = (refl, refl)
-cuts-stamped k (refused-here {cs} c n e s) j =
-    rw (refused-takes c n e, refused-stays k c n e) (cuts-stamped k s (j ∙ joined-refused c cs n e))
-cuts-stamped k (refused-there {ds = ds} d n e s) j =
-    rw (refused-takes d n e, refused-stays k d n e) (cuts-stamped k s (sym (joined-refused d ds n e) ∙ j))
-cuts-stamped k (both-take {cs} {ds} c d e f same s) j =
-    let parts = taken-same cs ds c d e f same j in
-    let rest = cuts-stamped k s (parts .1) in
-    (rw (parts .0, rest .0), rest .1)
-cuts-stamped k (both-change c d e f same s) j = rw (e, f, same) (cuts-stamped (c .operator) s j)
+-- stamped bytes are decided by the bytes and the duties
+pairs-same : (xs ys : List (ℕ × ℕ)) → map (λ x. x .0) ys ≡ map (λ x. x .0) xs → map (λ x. x .1) ys ≡ map (λ x. x .1) xs → ys ≡ xs
+pairs-same [] [] e f = refl
+pairs-same [] (y ∷ ys) e f = absurd (let z : _≡_ {A = ℕ} 0 1 = cc in omega arith)
+pairs-same (x ∷ xs) [] e f = absurd (let z : _≡_ {A = ℕ} 0 1 = cc in omega arith)
+pairs-same (x ∷ xs) (y ∷ ys) e f =
+    let first : y .0 ≡ x .0 = cc in
+    let second : y .1 ≡ x .1 = cc in
+    let rest : ys ≡ xs = pairs-same xs ys (cc) (cc) in
+    rw (first, second, rest)
 
 pub cuts-suffice : (cs ds : List Call) → joined ds ≡ joined cs → SameCuts cs ds → SameShifts cs ds
-cuts-suffice cs ds j s = let r = cuts-stamped 0 s j in record { as-taken = r .0; at-the-end = r .1 }
+cuts-suffice cs ds j s =
+    let d = cuts-duties cs ds s in
+    record {
+      as-taken = pairs-same (stamped 0 cs) (stamped 0 ds) (rw (← joined-stamped 0 ds, ← joined-stamped 0 cs) j) (d .as-taken);
+      at-the-end = d .at-the-end;
+    }
 
 -- ---- call by call
 

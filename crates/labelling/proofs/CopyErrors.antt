@@ -1,15 +1,14 @@
 -- Copy errors (02, request 10) under any vote in which two equal copies decide: the words stay, each weak count rises by the copies truly changed at
 -- its copy, and the kept copies stay unless those of the last closed group were changed. And there are such changes. Assumes nothing.
-use mathlib.Core.Path.{_≡_, refl, sym, ap, _∙_}
-use mathlib.Core.Bool.{Bool, true, false, cond, not}
+use mathlib.Core.Path.{_≡_, refl, sym, _∙_}
+use mathlib.Core.Bool.{Bool, true, false}
 use mathlib.Core.List.{List, [], _∷_, _++_}
-use Prim.Native.Nat.{ℕ, zero, suc, _+_, _≤_}
+use Prim.Native.Nat.{ℕ, _+_}
 use native.Mathlib.Omega.{arith}
 use lib.Dec.{eqb}
-use lib.ListN.{length, getD, take, drop}
+use lib.ListN.{length}
 use borrow.Author.Tests.{eqb-true, eqb-false, eq-eqb, ne-eqb}
-use Rattle.base.specs.Lists.{concatMap, sumBy, one, countBy}
-use Rattle.labelling.specs.declared.Word.the-variants.{Voted}
+use Rattle.base.specs.Lists.{concatMap, one, countBy}
 use Rattle.labelling.specs.Words.{SYNC, FILL, Outside, opening, filling, straying, outside, Group, fill, stray, closed, opened, groups, copies, bytesOf}
 use Rattle.labelling.specs.Words.{Vote, weakCopy, weakIn, weakly}
 use Rattle.labelling.specs.Votes.{Majority}

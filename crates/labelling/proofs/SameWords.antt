@@ -2,14 +2,13 @@
 -- and their major frames are the same, and so are those of their first n bytes. Assumes nothing.
 use mathlib.Core.Path.{_≡_, refl, sym, ap, _∙_}
 use mathlib.Core.List.{List, [], _∷_}
-use Prim.Native.Nat.{ℕ, zero, suc, _*_, _≤_}
+use Prim.Native.Nat.{ℕ, zero, suc, _≤_}
 use native.Mathlib.Omega.{arith}
 use lib.ListN.{length, take, length-take}
-use Rattle.labelling.specs.declared.Word.{Word}
 use Rattle.labelling.specs.Words.{SYNC, Outside, opening, filling, straying, outside, Group, fill, stray, closed, opened, groups, bytesOf}
 use Rattle.labelling.specs.Words.{Vote, Label, wordOf, words, labelOf, labelled}
 use Rattle.labelling.specs.Once.{framesIn, majorsIn}
-use Rattle.labelling.proofs.ByteLayer.{valueOf, value-is, weight, labelled-is}
+use Rattle.labelling.proofs.ByteLayer.{valueOf, value-is, labelled-is}
 use Rattle.labelling.proofs.Paired.{Paired, no-pair, pair, concatMap-paired, sumBy-paired}
 
 -- ---- the first groups of two streams

@@ -1,15 +1,15 @@
 -- Two lists of calls side by side: what each call of a list is handed, and that the same cuts give the same duties. Assumes nothing.
-use mathlib.Core.Path.{_≡_, refl, sym, ap, ap₂, _∙_}
+use mathlib.Core.Path.{_≡_, refl, sym, ap, _∙_}
 use mathlib.Core.List.{List, [], _∷_, _++_, map, append-assoc, map-append}
-use Prim.Native.Nat.{ℕ, zero, suc, _+_, _≤_}
+use Prim.Native.Nat.{ℕ, suc, _+_}
 use native.Mathlib.Omega.{arith}
 use lib.Dec.{eqb, eqb·suc-zero}
-use lib.ListN.{length, take}
+use lib.ListN.{length}
 use lib.Seq.{length-take-le}
 use Rattle.labelling.specs.declared.Tally.{Tally}
 use Rattle.labelling.specs.Calls.{TakeCall, takeRefusal, answer, taken, DutyCall, dutyRefusal, dutyAnswer, Call, takes, changes, refusalOf}
-use Rattle.labelling.specs.Calls.{dutyAfter, lastDuty, takenBy, joined, stamped, Handed, done, refused, accepted, changed}
-use Rattle.labelling.specs.SideBySide.{SideBySide, ends, refused-here, refused-there, both-take, both-change, SameCuts, SameDuties}
+use Rattle.labelling.specs.Calls.{dutyAfter, lastDuty, takenBy, joined, stamped, Handed, refused, accepted, changed}
+use Rattle.labelling.specs.SideBySide.{ends, refused-here, refused-there, both-take, both-change, SameCuts, SameDuties}
 use Rattle.labelling.proofs.CallLaws.{refused-taken, accepted-extent}
 
 -- ---- a refused call

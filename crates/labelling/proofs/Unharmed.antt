@@ -16,11 +16,11 @@ use Rattle.labelling.specs.Words.{Vote}
 use Rattle.labelling.specs.Votes.{ruleVote}
 use Rattle.labelling.specs.Machine.{fresh}
 use Rattle.labelling.specs.Order.{isRule}
-use Rattle.labelling.specs.Calls.{TakeCall, takeRefusal, answer, taken, pays, DutyCall, dutyRefusal, dutyAnswer, Call, takes, changes, takenBy, paidBy, joined, paid, stamped}
-use Rattle.labelling.specs.Calls.{Handed, done, refused, accepted, changed}
+use Rattle.labelling.specs.Calls.{TakeCall, takeRefusal, answer, taken, pays, DutyCall, dutyRefusal, dutyAnswer, Call, takes, changes}
+use Rattle.labelling.specs.Calls.{takenBy, paidBy, joined, paid, stamped, Handed, done, refused, accepted, changed}
 use Rattle.labelling.specs.SideBySide.{ends, refused-here, refused-there, both-take, both-change, SameCuts, SameDuties}
 use Rattle.labelling.specs.CopyErrors.{CopyErrors, SameButCopies, SameAnswer, SameAnswers, Unharmed, ReadLikewise}
-use Rattle.labelling.specs.Once.{majorsIn, Pays, PaysAt, Each, Once}
+use Rattle.labelling.specs.Once.{majorsIn, PaysAt, Each}
 use Rattle.labelling.proofs.Votes.{majority}
 use Rattle.labelling.proofs.CallLaws.{passed, duty-passed}
 use Rattle.labelling.proofs.SideBySide.{joined-refused, handed-refused, took, duty-changed, duties-append}
@@ -275,7 +275,8 @@ module _ (rule : ℕ) (is-rule : isRule rule ≡ true) (a₀ : List ℕ) (whole 
     pays-again : PaysAt (ruleVote rule) (joined ds) again
     pays-again = next-pays again (x .there) again-accepted
 
-    majors-at : (k : ℕ) → k ≤ count → majorsIn (ruleVote rule) (joined cs ++ take k (c .piece)) ≡ majorsIn (ruleVote rule) (joined ds ++ take k (take count bs′))
+    majors-at : (k : ℕ) → k ≤ count
+        → majorsIn (ruleVote rule) (joined cs ++ take k (c .piece)) ≡ majorsIn (ruleVote rule) (joined ds ++ take k (take count bs′))
     unfolding taken
     majors-at k h =
         let front = same-majors (ruleVote rule) (same-front (ruleVote rule) (length (joined cs) + k) s) in
