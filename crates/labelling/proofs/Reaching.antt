@@ -81,6 +81,22 @@ module _ (rule : ℕ) (a₀ : List ℕ) where
     pub order : inOrder t ≡ true
     pub rule-is : t .rule ≡ rule
 
+  -- what an accepted call leaves
+  accepted-reached : (c : TakeCall) (xs : List ℕ) → takeRefusal c ≡ 0 → Reached (c .tally) (c .area) xs
+      → Reached (answer c .tally) (answer c .area) (xs ++ taken c)
+  unfolding taken
+  accepted-reached c xs e i =
+      let r : FedRight (ruleVote rule) a₀ xs (c .piece) (progressOf (answer c)) =
+      rw (accepted-under c e (i .rule-is)) (feed-right (ruleVote rule) a₀ (stateOf (c .tally)) (c .area) xs (c .piece) (i .inv)) in
+      record { inv = r .grown .inv; order = answer-ordered c (i .order); rule-is = accepted-rule c e ∙ i .rule-is }
+
+  pub reads-reached : {t u : Tally} {a b : List ℕ} {ps qs : List (List ℕ)} {cs : List Call} (xs : List ℕ) → Reads t a ps cs u b qs → Reached t a xs
+      → Reached u b (xs ++ joined cs)
+  unfolding joined
+  reads-reached xs no-call i = rw (append-nil xs) i
+  reads-reached xs (takes-all c e n r) i = rw append-assoc at (reads-reached (xs ++ taken c) r (accepted-reached c xs e i))
+  reads-reached xs (stops c e n r) i = rw append-assoc at (reads-reached (xs ++ taken c) r (accepted-reached c xs e i))
+
   -- a call for the piece p is accepted where the bytes fit
   module _ (t : Tally) (a xs p : List ℕ) (i : Reached t a xs) (fits : length xs + length p ≤ 2 ^ 40) where
     abbrev call : TakeCall
@@ -94,10 +110,8 @@ module _ (rule : ℕ) (a₀ : List ℕ) where
     call-extent = accepted-extent call call-accepted
 
     call-reached : Reached (answer call .tally) (answer call .area) (xs ++ take (answer call .taken) p)
-    call-reached =
-        let r : FedRight (ruleVote rule) a₀ xs p (progressOf (answer call)) =
-        rw (accepted-under call call-accepted (i .rule-is)) (feed-right (ruleVote rule) a₀ (stateOf t) a xs p (i .inv)) in
-        record { inv = r .grown .inv; order = answer-ordered call (i .order); rule-is = accepted-rule call call-accepted ∙ i .rule-is }
+    unfolding taken
+    call-reached = accepted-reached call xs call-accepted i
 
     call-bytes : length (xs ++ take (answer call .taken) p) ≡ length xs + answer call .taken
     call-bytes = omega (arith, length-append xs (take (answer call .taken) p), length-take-le (answer call .taken) p (call-extent .within))
