@@ -86,11 +86,11 @@ fn one_cut(stream: &[u8], length: &[u8], s: Shifts, rule: u64) {
     report::heading(stream.len(), piece, rule, begun.refusal);
     let mut space = [0u8; 16384];
     let area: &mut [u8] = &mut space;
-    let r = read_stream(reading(begun.tally, s), stream, piece, &mut *area);
+    let r = read_stream(from_tally(begun.tally, s), stream, piece, &mut *area);
     report::whole(r, area);
 }
 
-fn reading(t: Tally, s: Shifts) -> Reading {
+fn from_tally(t: Tally, s: Shifts) -> Reading {
     Reading {
         tally: t,
         calls: 0,

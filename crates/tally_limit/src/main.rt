@@ -1,17 +1,21 @@
 // The reader at its edges: the limit of 2^40 bytes, the order of the refusals, and each clause of 'in order' (paper 01, "The tally and one
-// call" and "Refusal numbers"; paper 02, request 2). The file stdout was written by hand from the papers, not taken from a run.
+// call" and "Refusal numbers"; paper 02, requests 2, 5 and 6). The file stdout was written by hand from the papers, not taken from a run.
 //
 // A line says what a call answers: the refusal, the bytes taken, whether a major frame is complete, the bytes of the tally that comes back,
-// whether that is the tally that went in, and how many bytes of the area the call changed.
+// whether that is the tally that went in, and how many bytes of the area the call changed. Of a change of duty it says the refusal, who is on duty
+// then, whether that is the tally that went in, and whether it is but for who is on duty.
+mod operators;
+mod rules;
 mod show;
 
 use labelling::Tally;
 use labelling::Weak;
+use rules::fresh;
 use show::call;
 use show::grouped;
 use vectors::put;
 
-const LIMIT: u64 = 1 << 40;
+pub(crate) const LIMIT: u64 = 1 << 40;
 
 const ONE_LESS: u64 = LIMIT - 1;
 
@@ -24,11 +28,11 @@ const ONE_MORE: u64 = LIMIT + 1;
 
 const FOUR_MORE: u64 = LIMIT + 4;
 
-const P24: u64 = 1 << 24;
+pub(crate) const P24: u64 = 1 << 24;
 
-const P31: u64 = 1 << 31;
+pub(crate) const P31: u64 = 1 << 31;
 
-const P38: u64 = 1 << 38;
+pub(crate) const P38: u64 = 1 << 38;
 
 const ONE_ABOVE_P38: u64 = P38 + 1;
 
@@ -36,11 +40,11 @@ const P57: u64 = 1 << 57;
 
 const P62: u64 = 1 << 62;
 
-const P63: u64 = 1 << 63;
+pub(crate) const P63: u64 = 1 << 63;
 
-const LARGEST: u64 = 18446744073709551615;
+pub(crate) const LARGEST: u64 = 18446744073709551615;
 
-const AREA: usize = 16384;
+pub(crate) const AREA: usize = 16384;
 
 fn main() {
     limit();
@@ -66,11 +70,13 @@ fn main() {
     hole();
     free();
     weak_counted();
+    operators::all();
+    rules::all();
 }
 
 fn limit() {
     put(b"The limit of 2^40 bytes\n");
-    let mut t = reader::fresh();
+    let mut t = fresh(1);
     t.groups.bytes = THREE_LESS;
     t.groups.fill = THREE_LESS;
     call(b"3 bytes below the limit, 4 bytes", t, 4, AREA);
@@ -81,24 +87,32 @@ fn limit() {
     call(b"at the limit, no byte", full, 0, AREA);
 }
 
+// One byte short of a major frame.
+pub(crate) fn one_short(t: Tally) -> Tally {
+    let mut u = t;
+    u.groups.voted = 16386;
+    u.groups.open = 3;
+    u.groups.first = 0x77;
+    u.groups.second = 0x77;
+    u.framing.hunted = 3;
+    u.framing.hunting = false;
+    u.framing.good = 127;
+    u.framing.placed = 127;
+    u.runs.building = 127;
+    let mut f = [0u8; 128];
+    f[0] = 0xFA;
+    f[1] = 0xF3;
+    f[2] = 0x20;
+    f[65] = 127;
+    u.frame = f;
+    u
+}
+
 // One byte below the limit, and one byte short of a major frame.
 fn last_byte() {
-    let mut t = reader::fresh();
+    let mut t = one_short(fresh(1));
     t.groups.bytes = ONE_LESS;
     t.groups.fill = LEFT_FOR_FILL;
-    t.groups.voted = 16386;
-    t.groups.open = 3;
-    t.groups.first = 0x77;
-    t.groups.second = 0x77;
-    t.framing.hunted = 3;
-    t.framing.hunting = false;
-    t.framing.good = 127;
-    t.framing.placed = 127;
-    t.runs.building = 127;
-    t.frame[0] = 0xFA;
-    t.frame[1] = 0xF3;
-    t.frame[2] = 0x20;
-    t.frame[65] = 127;
     call(
         b"a major frame that the byte after the limit would complete, 2 bytes",
         t,
@@ -118,7 +132,7 @@ fn last_byte() {
 // A tally that is not in order.
 fn order() {
     put(b"The order of the refusals\n");
-    let mut t = reader::fresh();
+    let mut t = fresh(1);
     t.groups.bytes = LIMIT;
     t.groups.fill = LIMIT;
     t.framing.matched = 3;
@@ -129,7 +143,7 @@ fn order() {
 }
 
 fn order_in_order() {
-    let mut t = reader::fresh();
+    let mut t = fresh(1);
     t.groups.bytes = LIMIT;
     t.groups.fill = LIMIT;
     call(b"a byte too little area, too long", t, 1, 16383);
@@ -142,13 +156,13 @@ fn order_in_order() {
 }
 
 // A call with no byte: is the tally in order?
-fn asked(name: &[u8], t: Tally) {
+pub(crate) fn asked(name: &[u8], t: Tally) {
     call(name, t, 0, AREA);
 }
 
 fn limits_of_counts() {
     put(b"Each count is at most 2^40\n");
-    let mut t = reader::fresh();
+    let mut t = fresh(1);
     t.groups.bytes = LIMIT;
     t.groups.fill = LIMIT;
     asked(b"bytes and fill 2^40", t);
@@ -166,7 +180,7 @@ fn limits_of_counts() {
 
 // Counts of words and frames whose bytes come to 2^40, and to one group more.
 fn counts_together() {
-    let mut t = reader::fresh();
+    let mut t = fresh(1);
     t.groups.bytes = LIMIT;
     t.groups.voted = P38;
     t.framing.hunted = P38;
@@ -174,6 +188,7 @@ fn counts_together() {
     t.framing.hunted = 0;
     t.framing.good = P31;
     t.runs.majors = P24;
+    t.operators = operators::first_paid(P24);
     asked(b"2^24 major frames", t);
     t.groups.bytes = FOUR_MORE;
     t.groups.voted = ONE_ABOVE_P38;
@@ -183,7 +198,7 @@ fn counts_together() {
 
 // Counts far above the limit, by which a sum modulo 2^64 would hold.
 fn wrapping_groups() {
-    let mut t = reader::fresh();
+    let mut t = fresh(1);
     t.groups.fill = P63;
     t.groups.stray = P63;
     asked(b"bytes 0, fill and stray 2^63", t);
@@ -198,7 +213,7 @@ fn wrapping_groups() {
 }
 
 fn wrapping_frames() {
-    let mut t = reader::fresh();
+    let mut t = fresh(1);
     t.framing.damaged = P57;
     asked(b"no word, damaged 2^57", t);
     t.framing.damaged = 0;
@@ -220,7 +235,7 @@ fn wrapping_frames() {
 
 fn bytes_sum() {
     put(b"bytes = fill + stray + 4 * voted + 4 * split + open\n");
-    let mut t = reader::fresh();
+    let mut t = fresh(1);
     t.groups.fill = 10;
     t.groups.stray = 20;
     t.groups.voted = 2;
@@ -237,7 +252,7 @@ fn bytes_sum() {
 
 fn words_sum() {
     put(b"voted + split = hunted + 128 * (good + damaged + unsynced) + placed\n");
-    let mut t = reader::fresh();
+    let mut t = fresh(1);
     t.groups.bytes = 1592;
     t.groups.voted = 300;
     t.groups.split = 98;
@@ -257,13 +272,14 @@ fn words_sum() {
 
 fn frames_sum() {
     put(b"good = 128 * majors + broken + loose + building\n");
-    let mut t = reader::fresh();
+    let mut t = fresh(1);
     t.groups.bytes = 68620;
     t.groups.voted = 17155;
     t.framing.hunting = false;
     t.framing.hunted = 3;
     t.framing.good = 134;
     t.runs.majors = 1;
+    t.operators = operators::first_paid(1);
     t.runs.broken = 1;
     t.runs.building = 2;
     t.runs.loose = 2;
@@ -276,7 +292,7 @@ fn frames_sum() {
 
 fn weak_sum() {
     put(b"weak1 + weak2 + weak3 is at most voted\n");
-    let mut t = reader::fresh();
+    let mut t = fresh(1);
     t.groups.bytes = 52;
     t.groups.voted = 10;
     t.groups.split = 3;
@@ -288,7 +304,7 @@ fn weak_sum() {
 }
 
 fn weak_sum_at_the_limit() {
-    let mut t = reader::fresh();
+    let mut t = fresh(1);
     t.groups.bytes = LIMIT;
     t.groups.voted = P38;
     t.framing.hunted = P38;
@@ -297,7 +313,7 @@ fn weak_sum_at_the_limit() {
 }
 
 fn weak_limits() {
-    let mut t = reader::fresh();
+    let mut t = fresh(1);
     t.groups.bytes = LIMIT;
     t.groups.voted = P38;
     t.framing.hunted = P38;
@@ -308,7 +324,7 @@ fn weak_limits() {
 
 // Weak counts far above the limit, two of them or one, whose sum modulo 2^64 is 0.
 fn wrapping_weak() {
-    let t = reader::fresh();
+    let t = fresh(1);
     asked_weak(b"no group, weak1 and weak2 2^63", t, weak(P63, P63, 0));
     asked_weak(b"no group, weak2 and weak3 2^63", t, weak(0, P63, P63));
     asked_weak(b"no group, weak1 and weak3 2^63", t, weak(P63, 0, P63));
@@ -336,7 +352,7 @@ fn weak(first: u64, second: u64, third: u64) -> Weak {
 
 fn open() {
     put(b"open is at most 3\n");
-    let mut t = reader::fresh();
+    let mut t = fresh(1);
     t.groups.bytes = 3;
     t.groups.open = 3;
     asked(b"open 3", t);
@@ -347,7 +363,7 @@ fn open() {
 
 fn placed() {
     put(b"placed is at most 127\n");
-    let mut t = reader::fresh();
+    let mut t = fresh(1);
     t.groups.bytes = 520;
     t.groups.voted = 130;
     t.framing.hunting = false;
@@ -362,7 +378,7 @@ fn placed() {
 
 fn building() {
     put(b"building is at most 127\n");
-    let mut t = reader::fresh();
+    let mut t = fresh(1);
     t.groups.bytes = 65036;
     t.groups.voted = 16259;
     t.framing.hunting = false;
@@ -379,7 +395,7 @@ fn building() {
 
 fn matched() {
     put(b"the match is at most 2, and 0 out of hunting\n");
-    let mut t = reader::fresh();
+    let mut t = fresh(1);
     t.groups.bytes = 12;
     t.groups.voted = 3;
     t.framing.hunted = 3;
@@ -396,7 +412,7 @@ fn matched() {
 
 fn hunting() {
     put(b"placed and building are 0 while hunting\n");
-    let mut t = reader::fresh();
+    let mut t = fresh(1);
     t.groups.bytes = 4;
     t.groups.voted = 1;
     t.framing.placed = 1;
@@ -418,7 +434,7 @@ fn hunting() {
 
 fn hole() {
     put(b"no hole is marked when placed is 0\n");
-    let mut t = reader::fresh();
+    let mut t = fresh(1);
     t.framing.hunting = false;
     t.framing.erasure = true;
     asked(b"a hole, placed 0", t);
@@ -432,7 +448,7 @@ fn hole() {
 
 fn free() {
     put(b"nothing is asked of the copies and the frame\n");
-    let mut t = reader::fresh();
+    let mut t = fresh(1);
     t.groups.first = 0xFF;
     t.groups.second = 0xFE;
     t.frame = [0xFDu8; 128];
@@ -441,7 +457,7 @@ fn free() {
 
 fn weak_counted() {
     put(b"a voted group counts the copy that disagrees, a split counts none\n");
-    let a = grouped(b"16 07 07 07", reader::fresh(), &[0x16u8, 7, 7, 7]);
+    let a = grouped(b"16 07 07 07", fresh(1), &[0x16u8, 7, 7, 7]);
     let b = grouped(b"16 08 07 07", a, &[0x16u8, 8, 7, 7]);
     let c = grouped(b"16 07 08 07", b, &[0x16u8, 7, 8, 7]);
     let d = grouped(b"16 07 07 08", c, &[0x16u8, 7, 7, 8]);

@@ -2,6 +2,7 @@
 ghost use Prim.Native.Nat.{_≤_};
 use labelling::Framing;
 use labelling::Groups;
+use labelling::Operators;
 use labelling::Runs;
 use labelling::Tally;
 use labelling::Weak;
@@ -55,7 +56,7 @@ fn weak_copies(w: Weak) {
     field(b" weak3 ", w.third);
 }
 
-fn same(a: Tally, b: Tally) -> bool {
+pub(crate) fn same(a: Tally, b: Tally) -> bool {
     if !same_groups(a.groups, b.groups) {
         return false;
     }
@@ -63,6 +64,12 @@ fn same(a: Tally, b: Tally) -> bool {
         return false;
     }
     if !same_runs(a.runs, b.runs) {
+        return false;
+    }
+    if !same_operators(a.operators, b.operators) {
+        return false;
+    }
+    if a.rule != b.rule {
         return false;
     }
     let f = a.frame;
@@ -99,6 +106,20 @@ fn same_framing(a: Framing, b: Framing) -> bool {
 
 fn same_runs(a: Runs, b: Runs) -> bool {
     a.majors == b.majors && a.broken == b.broken && a.loose == b.loose && a.building == b.building
+}
+
+fn same_operators(a: Operators, b: Operators) -> bool {
+    let p = a.paid;
+    let q = b.paid;
+    p[0] == q[0]
+        && p[1] == q[1]
+        && p[2] == q[2]
+        && p[3] == q[3]
+        && p[4] == q[4]
+        && p[5] == q[5]
+        && p[6] == q[6]
+        && p[7] == q[7]
+        && a.duty == b.duty
 }
 
 fn same_frame(a: &[u8; 128], b: &[u8; 128]) -> bool {
