@@ -31,7 +31,7 @@ use Rattle.labelling.proofs.SameWords.{SameWords, same-front, same-leng
 use Rattle.labelling.proofs.CopyErrors.{words-stay, weakly-more, first-kept, second-kept}
 use Rattle.labelling.proofs.SameLeft.{same-but-copies, area-same, paid-same}
 
--- ---- call by call
+-- ---- what a call takes and pays
 
 -- a call pays a major frame where it completes one
 pays-count : (c : TakeCall) → length (pays c) ≡ one (answer c .complete)
