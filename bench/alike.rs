@@ -24,17 +24,17 @@ fn without_split(r: &mut Random, bytes: &[u8]) -> Vec<u8> {
 }
 
 // A reading under one rule: the tally and the area.
-struct Side {
-    state: State,
-    area: Vec<u8>,
+pub struct Side {
+    pub state: State,
+    pub area: Vec<u8>,
 }
 
 impl Side {
-    fn fresh(rule: u64, start: &[u8]) -> Side {
+    pub fn fresh(rule: u64, start: &[u8]) -> Side {
         Side { state: bridge::fresh(rule).1, area: start.to_vec() }
     }
 
-    fn take(&mut self, piece: &[u8]) -> Taken {
+    pub fn take(&mut self, piece: &[u8]) -> Taken {
         bridge::take(&mut self.state, piece, &mut self.area)
     }
 }

@@ -8,6 +8,7 @@ mod book_compare;
 mod bridge;
 mod bytewise;
 mod codecs;
+mod copy_errors;
 mod disorder;
 mod entry;
 mod items;
@@ -82,6 +83,7 @@ struct Seen {
     within_a_major: u64,
     paid_to: [u64; OPERATORS],
     ended_in: [u64; 17],
+    changed: copy_errors::Met,
     word72: items::Met,
     books: book::Met,
     comparisons: book_compare::Met,
@@ -142,6 +144,7 @@ impl Seen {
             ("changes of duty", changes),
             ("major frames paid to operator", paid_to),
             ("streams that ended with some", streams),
+            ("copies changed", self.changed.cases()),
             ("word 72", self.word72.cases()),
             ("books", self.books.cases()),
             ("books compared", self.comparisons.cases()),
@@ -205,6 +208,9 @@ impl Trial {
         self.fresh(seen)?;
         let longest = self.longest_piece();
         alike::trial(&mut self.r, &self.bytes, &self.start, longest)?;
+        for rule in [BY_BYTES, BY_BITS] {
+            copy_errors::trial(&mut self.r, &self.bytes, &self.start, rule, longest, &mut seen.changed)?;
+        }
         writer::trials(&mut self.r)?;
         lookup::trials(&mut self.r)?;
         codecs::trials(&mut self.r)?;

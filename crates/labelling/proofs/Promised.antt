@@ -7,7 +7,10 @@ use Rattle.labelling.specs.Machine.{fresh}
 use Rattle.labelling.specs.Order.{isRule}
 use Rattle.labelling.specs.Once.{freshRefusal, ruleGiven, FreshPromise}
 use Rattle.labelling.proofs.Demand.{once, reaches, reaches-shifts}
+use Rattle.labelling.proofs.SideBySide.{cuts-duties}
 use Rattle.labelling.proofs.BothRules.{read-alike, cuts-suffice}
+use Rattle.labelling.proofs.CopyErrors.{reach}
+use Rattle.labelling.proofs.Unharmed.{unharmed, stops-same, reads-likewise}
 
 -- ---- the refusal
 
@@ -37,4 +40,11 @@ fresh-promise rule n r e f = rw (e, f) record {
   reaches = reaches (ruleGiven rule) (given-rule rule);
   reaches-shifts = reaches-shifts (ruleGiven rule) (given-rule rule);
   alike = record { read-alike = read-alike; cuts-suffice = cuts-suffice };
+  copy-errors = record {
+    unharmed = unharmed (ruleGiven rule) (given-rule rule);
+    cuts-suffice = cuts-duties;
+    stops-same = stops-same (ruleGiven rule) (given-rule rule);
+    reads-likewise = reads-likewise (ruleGiven rule) (given-rule rule);
+    not-empty = reach;
+  };
 }

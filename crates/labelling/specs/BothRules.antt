@@ -1,31 +1,17 @@
 -- One stream under both rules (02, request 6): where no group is split under rule 1, it is read alike. Definitions only.
 use mathlib.Core.Path.{_≡_}
-use mathlib.Core.List.{List, [], _∷_}
-use Prim.Native.Nat.{ℕ, suc}
+use mathlib.Core.List.{List}
+use Prim.Native.Nat.{ℕ}
 use lib.ListN.{length}
 use Rattle.base.specs.Format.{majorFrame}
 use Rattle.labelling.specs.declared.Tally.{Tally}
 use Rattle.labelling.specs.Words.{as-split, labelled}
 use Rattle.labelling.specs.Votes.{ruleVote}
 use Rattle.labelling.specs.Machine.{withRule, fresh}
-use Rattle.labelling.specs.Calls.{TakeCall, takeRefusal, Answer, answer, DutyCall, dutyRefusal, dutyAnswer, Call, takes, changes, refusalOf}
-use Rattle.labelling.specs.Calls.{joined, paid, stamped, lastDuty, Handed}
+use Rattle.labelling.specs.Calls.{Answer, answer, dutyAnswer, Call, joined, paid, stamped, lastDuty, Handed}
+use Rattle.labelling.specs.SideBySide.{SideBySide, SameCuts}
 
--- ---- two lists of calls
-
--- two lists of calls side by side: refused calls are free, and each accepted one stands beside one of its kind, related as the two say
-pub data SideBySide (Takes : TakeCall → TakeCall → Type 0) (Changes : DutyCall → DutyCall → Type 0) : List Call → List Call → Type 0 where
-  ends : SideBySide Takes Changes [] []
-  refused-here : {cs ds : List Call} (c : Call) (n : ℕ) → refusalOf c ≡ suc n → SideBySide Takes Changes cs ds → SideBySide Takes Changes (c ∷ cs) ds
-  refused-there : {cs ds : List Call} (d : Call) (n : ℕ) → refusalOf d ≡ suc n → SideBySide Takes Changes cs ds → SideBySide Takes Changes cs (d ∷ ds)
-  both-take : {cs ds : List Call} (c d : TakeCall) → takeRefusal c ≡ 0 → takeRefusal d ≡ 0 → Takes c d → SideBySide Takes Changes cs ds
-      → SideBySide Takes Changes (takes c ∷ cs) (takes d ∷ ds)
-  both-change : {cs ds : List Call} (c d : DutyCall) → dutyRefusal c ≡ 0 → dutyRefusal d ≡ 0 → Changes c d → SideBySide Takes Changes cs ds
-      → SideBySide Takes Changes (changes c ∷ cs) (changes d ∷ ds)
-
--- the same cuts and shifts: call by call as many bytes are taken, and the same operator comes on duty
-abbrev pub SameCuts : List Call → List Call → Type 0
-SameCuts cs ds = SideBySide (λ c d. answer d .taken ≡ answer c .taken) (λ c d. d .operator ≡ c .operator) cs ds
+-- ---- the same bytes and shifts
 
 -- the same bytes with the same operator on duty as each is taken, and at the end
 pub record SameShifts (cs ds : List Call) : Type 0 where
