@@ -11,7 +11,7 @@ enum-told : tie.Need-enum-told
 enum-told c = search needs
 
 returns : tie.Need-returns
-returns c = check-crossed _ _ _ (c .before .before .before .check .ensures) (c .before .enum-told .given .1)
+returns c = check-crossed _ _ _ (c .before .before .check .ensures) (c .enum-told .given .1)
 
 enum-known-number : tie.Need-enum-known-number
 enum-known-number c = search needs
