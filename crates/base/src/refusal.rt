@@ -35,3 +35,9 @@ pub const NO_WORD_FOR_DOUBLE: u8 = 11;
 
 // A list of instants is longer than 100,000.
 pub const LIST_TOO_LONG: u8 = 12;
+
+// A VCDU header has another length than eight bytes.
+pub const NOT_A_HEADER: u8 = 22;
+
+// No code word lies within two symbols of a VCDU header's.
+pub const NO_CODE_WORD: u8 = 23;

@@ -92,7 +92,7 @@ decoded-from (suc k) sofar s hn t (symbol {n = n} {c = zero} hc r) hw =
 decoded-from (suc k) sofar s hn t (symbol {n = n} {c = suc c} {w = w} hc r) hw =
     wrong-more (suc c) sofar s r
     (decoded-from k (sofar * 16 + suc c) (getD syndromes (n * 16 + suc c) 0 ⊕ s) (omega arith) (if-wrong k n sofar s t c (omega arith)) r
-      (omega (arith, one-more c (weight w) (suc k) hw)))
+    (omega (arith, one-more c (weight w) (suc k) hw)))
 
 pub decoded : {w : List ℕ} → Word 10 w → weight w ≤ 2 → located (syndrome w) ≡ numberOf w
 decoded {w} x h =

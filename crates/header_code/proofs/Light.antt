@@ -10,15 +10,15 @@ use lib.ListN.{getD}
 use Rattle.header_code.specs.Field.{_⊕_}
 use Rattle.header_code.specs.Code.{weight}
 use Rattle.header_code.specs.Symbols.{symbolsOf}
-use Rattle.header_code.specs.Decoder.{entry, products, quotients, roots, sixths, places, lifted, one, both, from-root, from-sums, two, by-determinant, from-values, located}
+use Rattle.header_code.specs.Decoder.{cell, products, quotients, roots, sixths, places, lifted, one, both, from-root, from-sums, two, by-determinant, from-values, located}
 use Rattle.header_code.proofs.Every.{all, each, each2}
 use Rattle.header_code.proofs.Field.{sum-lt}
 use Rattle.header_code.proofs.Words.{weight-add-le}
 use Rattle.header_code.proofs.Symbols.{symbols-word, symbols-sum}
 
 -- an entry of a table is a symbol
-pub entry-lt : (rows : List ℕ) (a b : ℕ) → entry rows a b < 16
-entry-lt rows a b = mod-lt (getD rows a 0 / 2 ^ (4 * b)) (lit< tt)
+pub cell-lt : (rows : List ℕ) (a b : ℕ) → cell rows a b < 16
+cell-lt rows a b = mod-lt (getD rows a 0 / 2 ^ (4 * b)) (lit< tt)
 
 -- at most so many of the ten symbols of a number are not 0
 abbrev pub Light : ℕ → ℕ → Type 0
@@ -39,17 +39,17 @@ both-light p f x y hp hf hx hy =
 two-light : (p q r s d : ℕ) → p < 16 → Light 2 (two p q r s d)
 unfolding two from-sums from-root
 two-light p q r s d hp =
-    let t = entry quotients (entry products p s ⊕ entry products q r) d in
-    let u = entry quotients (entry products q s ⊕ entry products r r) d in
-    let x = entry roots t u in
+    let t = cell quotients (cell products p s ⊕ cell products q r) d in
+    let u = cell quotients (cell products q s ⊕ cell products r r) d in
+    let x = cell roots t u in
     let y = t ⊕ x in
-    let ht = entry-lt quotients (entry products p s ⊕ entry products q r) d in
-    let hx = entry-lt roots t u in
-    both-light p (entry quotients (q ⊕ entry products p y) t) x y hp (entry-lt quotients (q ⊕ entry products p y) t) hx (sum-lt t x ht hx)
+    let ht = cell-lt quotients (cell products p s ⊕ cell products q r) d in
+    let hx = cell-lt roots t u in
+    both-light p (cell quotients (q ⊕ cell products p y) t) x y hp (cell-lt quotients (q ⊕ cell products p y) t) hx (sum-lt t x ht hx)
 
 one-light : (p q : ℕ) → p < 16 → Light 2 (one p q)
 unfolding one
-one-light p q hp = let x = entry quotients q p in omega (arith, lifted-light x p (entry-lt quotients q p) hp)
+one-light p q hp = let x = cell quotients q p in omega (arith, lifted-light x p (cell-lt quotients q p) hp)
 
 by-determinant-light : (p q r s d : ℕ) → p < 16 → Light 2 (by-determinant p q r s d)
 unfolding by-determinant

@@ -24,9 +24,9 @@ assoc =
     bin-ind (λ (n : ℕ). (b c : ℕ) → n ⊕ b ⊕ c ≡ n ⊕ (b ⊕ c)) (λ b c. refl)
     (λ n ih b c. xor-step (n ⊕ b) c
     ∙ ap₂ (λ (x y : ℕ). x * 2 + y)
-        (ap (λ (x : ℕ). x ⊕ c / 2) (xor-shr n b 1) ∙ ih (b / 2) (c / 2) ∙ ap (λ (x : ℕ). n / 2 ⊕ x) (sym (xor-shr b c 1)))
-        (ap (λ (x : ℕ). differ x (c % 2)) (last-bit n b) ∙ bits-assoc (c % 2) (n % 2) (b % 2) (bit c) (bit n) (bit b)
-        ∙ ap (λ (x : ℕ). differ (n % 2) x) (sym (last-bit b c)))
+    (ap (λ (x : ℕ). x ⊕ c / 2) (xor-shr n b 1) ∙ ih (b / 2) (c / 2) ∙ ap (λ (x : ℕ). n / 2 ⊕ x) (sym (xor-shr b c 1)))
+    (ap (λ (x : ℕ). differ x (c % 2)) (last-bit n b) ∙ bits-assoc (c % 2) (n % 2) (b % 2) (bit c) (bit n) (bit b)
+    ∙ ap (λ (x : ℕ). differ (n % 2) x) (sym (last-bit b c)))
     ∙ sym (xor-step n (b ⊕ c)))
 
 pub swap : (a b c d : ℕ) → (a ⊕ b) ⊕ (c ⊕ d) ≡ (a ⊕ c) ⊕ (b ⊕ d)

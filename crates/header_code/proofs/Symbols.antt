@@ -42,10 +42,12 @@ low-digits (suc n) k x y = ap₂ _∷_ first (rw shift (low-digits n (suc k) x y
   where
     shift : 16 ^ (suc n + k) ≡ 16 ^ (n + suc k)
     shift = ap (λ (m : ℕ). 16 ^ m) (omega arith)
+
     apart : x * 16 ^ (suc n + k) ≡ x * 16 ^ k * 16 * 16 ^ n
     apart =
         let e : suc n + k ≡ k + 1 + n = omega arith in
         rw (e, pow-add 16 (k + 1) n, pow-add 16 k 1) (sym (mul-assoc x (16 ^ k * 16) (16 ^ n)) ∙ ap (λ (m : ℕ). m * 16 ^ n) (sym (mul-assoc x (16 ^ k) 16)))
+
     first : (x * 16 ^ (suc n + k) + y) / 16 ^ n % 16 ≡ y / 16 ^ n % 16
     first = rw (apart, mul-add-div-right (pos n) (x * 16 ^ k * 16) y) (mul-add-mod-self-right (x * 16 ^ k) 16 (y / 16 ^ n))
 

@@ -29,20 +29,25 @@ is-syndrome end h = refl
 is-syndrome (symbol {n = n} {c = c} {w = w} hc r) h =
     rw (length-word r, table-rule n c (omega arith) hc, is-syndrome r (omega arith))
     (packed-sum (times c (power (6 * n))) (times c (power (7 * n))) (times c (power (8 * n))) (times c (power (9 * n)))
-      (value 6 w) (value 7 w) (value 8 w) (value 9 w) (times-lt c (power (7 * n)) hc) (times-lt c (power (8 * n)) hc)
-      (times-lt c (power (9 * n)) hc) (value-lt 7 r) (value-lt 8 r) (value-lt 9 r))
+    (value 6 w) (value 7 w) (value 8 w) (value 9 w) (times-lt c (power (7 * n)) hc) (times-lt c (power (8 * n)) hc)
+    (times-lt c (power (9 * n)) hc) (value-lt 7 r) (value-lt 8 r) (value-lt 9 r))
 
 pub syndrome-add : {n : ℕ} {v w : List ℕ} → Word n v → Word n w → syndrome (add v w) ≡ syndrome v ⊕ syndrome w
 syndrome-add {v = v} {w = w} x y =
     rw (value-add 6 x y, value-add 7 x y, value-add 8 x y, value-add 9 x y)
     (sym (packed-sum (value 6 v) (value 7 v) (value 8 v) (value 9 v) (value 6 w) (value 7 w) (value 8 w) (value 9 w)
-      (value-lt 7 x) (value-lt 8 x) (value-lt 9 x) (value-lt 7 y) (value-lt 8 y) (value-lt 9 y)))
+    (value-lt 7 x) (value-lt 8 x) (value-lt 9 x) (value-lt 7 y) (value-lt 8 y) (value-lt 9 y)))
 
 -- a code word is one whose syndrome is 0
 pub code-syndrome : {w : List ℕ} → CodeWord w → syndrome w ≡ 0
 code-syndrome g =
-    omega (arith, g .vanishes 6 (omega arith) (omega arith), g .vanishes 7 (omega arith) (omega arith), g .vanishes 8 (omega arith) (omega arith),
-      g .vanishes 9 (omega arith) (omega arith))
+    omega (
+      arith,
+      g .vanishes 6 (omega arith) (omega arith),
+      g .vanishes 7 (omega arith) (omega arith),
+      g .vanishes 8 (omega arith) (omega arith),
+      g .vanishes 9 (omega arith) (omega arith),
+    )
 
 pub syndrome-code : {w : List ℕ} → Word 10 w → syndrome w ≡ 0 → CodeWord w
 syndrome-code {w} x e =

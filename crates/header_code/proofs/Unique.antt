@@ -30,7 +30,7 @@ pub unique : {w c d : List ℕ} → Word 10 w → CodeWord c → CodeWord d → 
 unique {w} {c} {d} x g g′ h h′ =
     let numbers : numberOf (add w c) ≡ numberOf (add w d) = sym (difference x g h) ∙ difference x g′ h′ in
     let sums : add w c ≡ add w d =
-        sym (number-symbols (add-word x (g .word))) ∙ ap (symbolsOf 10) numbers ∙ number-symbols (add-word x (g′ .word)) in
+    sym (number-symbols (add-word x (g .word))) ∙ ap (symbolsOf 10) numbers ∙ number-symbols (add-word x (g′ .word)) in
     sym (add-undo x (g .word)) ∙ ap (add w) sums ∙ add-undo x (g′ .word)
 
 -- ---- two code words with the same first six symbols are the same: a word lies within two symbols of both

@@ -9,8 +9,11 @@ use Rattle.header_code.specs.Field.{_⊕_}
 
 -- ---- tables of sixteen rows; a row is the sixteen digits of a number to the base of 16, the last digit first
 
-abbrev pub entry : List ℕ → ℕ → ℕ → ℕ
-entry rows a b = getD rows a 0 / 2 ^ (4 * b) % 16
+abbrev pub digit : ℕ → ℕ → ℕ
+digit row b = row / 2 ^ (4 * b) % 16
+
+abbrev pub cell : List ℕ → ℕ → ℕ → ℕ
+cell rows a b = digit (getD rows a 0) b
 
 -- a times b
 unfoldable pub products : List ℕ
@@ -79,33 +82,32 @@ checks =
 
 -- one symbol
 unfoldable pub lifted : ℕ → ℕ → ℕ
-lifted x f = entry products f (sixths / 2 ^ (4 * x) % 16) * getD places x 0
+lifted x f = cell products f (digit sixths x) * getD places x 0
 
 unfoldable pub one : ℕ → ℕ → ℕ
-one p q = lifted (entry quotients q p) p
-
+one p q = lifted (cell quotients q p) p
 
 -- two symbols: of the locators x and y with the sum t; what is wrong adds up to p
 unfoldable pub both : ℕ → ℕ → ℕ → ℕ → ℕ
 both p f x y = lifted x f ⊕ lifted y (p ⊕ f)
 
 unfoldable pub from-root : ℕ → ℕ → ℕ → ℕ → ℕ
-from-root p q t x = both p (entry quotients (q ⊕ entry products p (t ⊕ x)) t) x (t ⊕ x)
+from-root p q t x = both p (cell quotients (q ⊕ cell products p (t ⊕ x)) t) x (t ⊕ x)
 
 -- the locators are the roots of x^2 + t x + u
 unfoldable pub from-sums : ℕ → ℕ → ℕ → ℕ → ℕ
-from-sums p q t u = from-root p q t (entry roots t u)
+from-sums p q t u = from-root p q t (cell roots t u)
 
 unfoldable pub two : ℕ → ℕ → ℕ → ℕ → ℕ → ℕ
 two p q r s d =
-    from-sums p q (entry quotients (entry products p s ⊕ entry products q r) d) (entry quotients (entry products q s ⊕ entry products r r) d)
+    from-sums p q (cell quotients (cell products p s ⊕ cell products q r) d) (cell quotients (cell products q s ⊕ cell products r r) d)
 
 -- the determinant of the two equations r = t q + u p and s = t r + u q tells one wrong symbol from two
 unfoldable pub by-determinant : ℕ → ℕ → ℕ → ℕ → ℕ → ℕ
 by-determinant p q r s d = cond (eqb d 0) (one p q) (two p q r s d)
 
 unfoldable pub from-values : ℕ → ℕ → ℕ → ℕ → ℕ
-from-values p q r s = by-determinant p q r s (entry products p r ⊕ entry products q q)
+from-values p q r s = by-determinant p q r s (cell products p r ⊕ cell products q q)
 
 -- the wrong symbols, as a number whose digits are what is wrong at each place, from a syndrome
 unfoldable pub located : ℕ → ℕ
