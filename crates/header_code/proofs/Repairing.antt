@@ -1,20 +1,27 @@
 -- Which code word lies within two symbols of a word, from what is located: on each way that repairing ends. Assumes nothing.
 use mathlib.Core.Path.{_≡_, refl, sym, ap, _∙_, subst}
-use mathlib.Core.List.{List, [], _∷_}
+use mathlib.Core.Bool.{Bool, true, false}
+use mathlib.Core.List.{List}
 use mathlib.Core.Option.{Option, none, some}
 use Prim.Native.Nat.{ℕ, _+_, _^_, _≤_, _<_}
 use native.Mathlib.Omega.{arith}
 use lib.Bits.{xor-self}
+use lib.Dec.{eqb, leb}
+use borrow.Author.Tests.{eqb-true, eqb-false, leb-true}
 use Rattle.header_code.specs.Field.{_⊕_}
 use Rattle.header_code.specs.Code.{Word, CodeWord, distance, add, weight, Near, the-only, no-word}
 use Rattle.header_code.specs.Symbols.{symbolsOf, numberOf, combined}
 use Rattle.header_code.specs.Decoder.{syndromes, located}
-use Rattle.header_code.proofs.Words.{add-word, add-undo, weight-add, distance-self}
+use Rattle.header_code.proofs.Words.{value-lt, add-word, add-undo, weight-add, distance-self}
 use Rattle.header_code.proofs.Symbols.{symbols-word, number-lt, number-symbols}
 use Rattle.header_code.proofs.Syndromes.{syndrome, is-syndrome, syndrome-add, syndrome-code, code-syndrome}
+use Rattle.header_code.proofs.Light.{located-light}
 use Rattle.header_code.proofs.Unique.{same-syndrome, difference, unique}
 
 module _ {w : List ℕ} (x : Word 10 w) where
+  pub syndrome-fits : combined syndromes w < 65536
+  syndrome-fits = omega (arith, is-syndrome x (omega arith), value-lt 6 x, value-lt 7 x, value-lt 8 x, value-lt 9 x)
+
   only : {c : List ℕ} → CodeWord c → distance w c ≤ 2 → Near w (some c)
   only g h = the-only g h (λ d g′ h′. unique x g′ g h′ h)
 
@@ -69,3 +76,21 @@ module _ {w : List ℕ} (x : Word 10 w) where
 
   pub itself : combined syndromes w ≡ 0 → Near w (some w)
   itself e = only (is-code e) (omega (arith, distance-self w))
+
+  -- what there is of a word is decided by what is located
+  pub record Outcome : Type 0 where
+    pub near : Option (List ℕ)
+    pub nearest : Near w near
+
+  pub outcome : Outcome
+  outcome = go (leb (16 ^ 10) e) (eqb (combined syndromes (symbolsOf 10 e)) (combined syndromes w)) refl refl
+    where
+      e : ℕ
+      e = located (combined syndromes w)
+
+      go : (far same : Bool) → leb (16 ^ 10) e ≡ far → eqb (combined syndromes (symbolsOf 10 e)) (combined syndromes w) ≡ same → Outcome
+      go true same f s = record { near = none; nearest = outside (leb-true (16 ^ 10) e f) }
+      go false false f s = record { near = none; nearest = unlike (eqb-false (combined syndromes (symbolsOf 10 e)) (combined syndromes w) s) }
+      go false true f s =
+          let same : combined syndromes (symbolsOf 10 e) ≡ combined syndromes w = eqb-true (combined syndromes (symbolsOf 10 e)) (combined syndromes w) s in
+          record { near = some (add w (symbolsOf 10 e)); nearest = repaired e same (located-light (combined syndromes w) syndrome-fits) }

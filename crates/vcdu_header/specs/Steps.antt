@@ -1,7 +1,9 @@
 -- What the functions below the entries promise one another. Definitions only.
 use mathlib.Core.Path.{_≡_}
+use mathlib.Core.Bool.{cond}
 use mathlib.Core.List.{List}
-use Prim.Native.Nat.{ℕ, _^_, _<_}
+use Prim.Native.Nat.{ℕ, _^_, _≤_, _<_}
+use lib.Dec.{eqb}
 use Rattle.header_code.specs.Symbols.{symbolsOf}
 use Rattle.vcdu_header.specs.Header.{symbols}
 
@@ -14,3 +16,8 @@ pub record Packs (h : List ℕ) (x : ℕ) : Type 0 where
 pub record Symbol (c r : ℕ) : Type 0 where
   pub is : r ≡ c
   pub small : r < 16
+
+-- 0 for 0, else 1
+pub record Mark (c r : ℕ) : Type 0 where
+  pub is : r ≡ cond (eqb c 0) 0 1
+  pub small : r ≤ 1

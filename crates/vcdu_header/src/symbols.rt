@@ -1,14 +1,12 @@
 // The ten symbols of a header as one number of 40 bits, the first symbol highest.
 ghost use mathlib.Core.Path.{_≡_};
-ghost use mathlib.Core.Bool.{cond};
 ghost use Prim.Native.Nat.{_+_, _*_, _^_, _≤_, _<_};
-ghost use lib.Dec.{eqb};
 ghost use lib.ListN.{length};
 ghost use Rattle.header_code.specs.Code.{weight};
 ghost use Rattle.header_code.specs.Symbols.{symbolsOf, combined};
 ghost use Rattle.header_code.specs.Decoder.{syndromes, checks};
 ghost use Rattle.vcdu_header.specs.Header.{placed};
-ghost use Rattle.vcdu_header.specs.Steps.{Packs};
+ghost use Rattle.vcdu_header.specs.Steps.{Packs, Mark};
 use crate::tables;
 use base::wide;
 
@@ -87,7 +85,7 @@ pub fn weigh(word: u64) -> u64
 
 // 0 for 0, else 1.
 fn mark(c: u64) -> u64
-    ensures { λ r. ⌜ r ≡ cond (eqb c 0) 0 1 ⌝ }
+    ensures { λ r. ⌜ Mark c r ⌝ }
 {
     if c == 0 {
         return 0;
