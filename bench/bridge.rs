@@ -26,6 +26,9 @@ extern "C" {
     fn pcd_part_refusal(column: *const u8, column_len: usize, kind: u64, item: u64) -> u8;
     fn pcd_read(column: *const u8, column_len: usize, kind: u64, item: u64, out: *mut [u64; 9], number: *mut f64) -> u8;
     fn pcd_find(instants: *const u64, instants_len: usize, wanted: u64, out: *mut [u64; 2]) -> u8;
+    fn pcd_encode_header(header: *mut u8, header_len: usize) -> u8;
+    fn pcd_check_header(header: *const u8, header_len: usize, out: *mut u64) -> u8;
+    fn pcd_repair_header(header: *mut u8, header_len: usize, out: *mut u64) -> u8;
 }
 
 // A tally as it crosses.
@@ -125,4 +128,16 @@ pub fn read(column: &[u8], kind: u64, item: u64, out: &mut [u64; 9], number: &mu
 
 pub fn find(instants: &[u64], wanted: u64, out: &mut [u64; 2]) -> u8 {
     unsafe { pcd_find(instants.as_ptr(), instants.len(), wanted, out) }
+}
+
+pub fn encode_header(header: &mut [u8]) -> u8 {
+    unsafe { pcd_encode_header(header.as_mut_ptr(), header.len()) }
+}
+
+pub fn check_header(header: &[u8], out: &mut u64) -> u8 {
+    unsafe { pcd_check_header(header.as_ptr(), header.len(), out) }
+}
+
+pub fn repair_header(header: &mut [u8], out: &mut u64) -> u8 {
+    unsafe { pcd_repair_header(header.as_mut_ptr(), header.len(), out) }
 }

@@ -14,6 +14,7 @@ mod plain;
 mod stream;
 mod tally;
 mod tuned;
+mod vcdu_header;
 mod writer;
 
 use std::env;
@@ -172,6 +173,7 @@ impl Trial {
         self.streaming("nominal", nominal::take)?;
         writer::trials(&mut self.r)?;
         lookup::trials(&mut self.r)?;
+        vcdu_header::trials(&mut self.r)?;
         codecs::trials(&mut self.r)?;
         items::trials(&mut self.r, &mut seen.word72)
     }

@@ -10,6 +10,9 @@ mod lookup;
 mod stream;
 #[allow(dead_code)]
 mod tally;
+#[allow(dead_code)]
+mod vcdu_header;
+mod vcdu_timing;
 
 use std::time::Instant;
 
@@ -31,6 +34,8 @@ fn main() {
     println!("{:<18} | {:>7} {:>9} {:>9} | {:>9} {:>9}", "areas", "proved", "by steps", "by places", "by steps", "by places");
     print_gathering("16 (0.3 MB)", 16);
     print_gathering("4096 (67 MB)", 4096);
+    println!();
+    vcdu_timing::print();
 }
 
 // Place 72 of each of the 128 minor frames, by steps of 128, and by the place of each.

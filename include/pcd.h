@@ -36,6 +36,8 @@ extern "C" {
 #define PCD_NOT_NORMALISED 10    /* a six-byte number is not normalised */
 #define PCD_NO_WORD_FOR_DOUBLE 11 /* a double has no six-byte word */
 #define PCD_LIST_TOO_LONG 12     /* a list of instants is longer than 100,000 */
+#define PCD_NOT_A_HEADER 22      /* a VCDU header has another length than eight bytes */
+#define PCD_NO_CODE_WORD 23      /* no code word lies within two symbols of a VCDU header's */
 
 /* ---- Sizes */
 
@@ -143,6 +145,18 @@ uint8_t pcd_encode_number(double x, uint8_t *out, size_t out_len);
 /* Finds the last instant at or before the wanted one, by halving: out gets its place plus one, 0 for none, and how many instants were looked
  * at. Of a list that does not rise, the place that halving comes to. Refused: 12. */
 uint8_t pcd_find(const uint64_t *instants, size_t instants_len, uint64_t wanted, uint64_t out[2]);
+
+/* ---- VCDU headers of eight bytes: bytes 0, 1 and 5 are six symbols of four bits, which the four check symbols in bytes 6 and 7 protect. The
+ * counter in bytes 2 to 4 is not protected, and never changes. */
+
+/* Writes the check symbols. Refused: 22. */
+uint8_t pcd_encode_header(uint8_t *header, size_t header_len);
+
+/* Whether the ten symbols are a code word: out gets 1 or 0. Refused: 22. */
+uint8_t pcd_check_header(const uint8_t *header, size_t header_len, uint64_t *out);
+
+/* Puts the only code word within two symbols into the header; out gets how many symbols were wrong. Refused: 22; 23, there is none. */
+uint8_t pcd_repair_header(uint8_t *header, size_t header_len, uint64_t *out);
 
 #ifdef __cplusplus
 }

@@ -1,3 +1,4 @@
 pub mod Answers
 pub mod FoundCrossed
+pub mod HeaderCrossed
 pub mod WordCrossed

@@ -1,3 +1,4 @@
 pub mod Finding
+pub mod Headers
 pub mod LentPlaces
 pub mod Word72

@@ -2,6 +2,7 @@
 // include/pcd.h declares them for C.
 mod codecs;
 mod finding;
+mod headers;
 mod reading;
 mod word72;
 mod writing;
@@ -11,6 +12,9 @@ pub use codecs::pcd_decode_time;
 pub use codecs::pcd_encode_number;
 pub use codecs::pcd_encode_time;
 pub use finding::pcd_find;
+pub use headers::pcd_check_header;
+pub use headers::pcd_encode_header;
+pub use headers::pcd_repair_header;
 pub use reading::pcd_fresh;
 pub use reading::pcd_take;
 pub use word72::pcd_describe;

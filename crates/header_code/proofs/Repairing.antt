@@ -3,17 +3,17 @@ use mathlib.Core.Path.{_≡_, refl, sym, ap, _∙_, subst}
 use mathlib.Core.Bool.{Bool, true, false}
 use mathlib.Core.List.{List}
 use mathlib.Core.Option.{Option, none, some}
-use Prim.Native.Nat.{ℕ, _+_, _^_, _≤_, _<_}
+use Prim.Native.Nat.{ℕ, _≤_, _<_}
 use native.Mathlib.Omega.{arith}
 use lib.Bits.{xor-self}
-use lib.Dec.{eqb, leb}
-use borrow.Author.Tests.{eqb-true, eqb-false, leb-true}
+use lib.Dec.{eqb}
+use borrow.Author.Tests.{eqb-true, eqb-false}
 use Rattle.header_code.specs.Field.{_⊕_}
 use Rattle.header_code.specs.Code.{Word, CodeWord, distance, add, weight, Near, the-only, no-word}
 use Rattle.header_code.specs.Symbols.{symbolsOf, numberOf, combined}
 use Rattle.header_code.specs.Decoder.{syndromes, located}
 use Rattle.header_code.proofs.Words.{value-lt, add-word, add-undo, weight-add, distance-self}
-use Rattle.header_code.proofs.Symbols.{symbols-word, number-lt, number-symbols}
+use Rattle.header_code.proofs.Symbols.{symbols-word, number-symbols}
 use Rattle.header_code.proofs.Syndromes.{syndrome, is-syndrome, syndrome-add, syndrome-code, code-syndrome}
 use Rattle.header_code.proofs.Light.{located-light}
 use Rattle.header_code.proofs.Unique.{same-syndrome, difference, unique}
@@ -49,15 +49,6 @@ module _ {w : List ℕ} (x : Word 10 w) where
     found : located (combined syndromes w) ≡ numberOf (add w c)
     found = ap located (is-syndrome x (omega arith)) ∙ difference x g h
 
-    within : located (combined syndromes w) < 16 ^ 10
-    within = rw found (number-lt (add-word x (g .word)))
-
-  pub outside : 16 ^ 10 ≤ located (combined syndromes w) → Near w none
-  outside l = no-word (λ c g h. impossible g h)
-    where
-      impossible : {c : List ℕ} → CodeWord c → distance w c ≤ 2 → ⊥
-      impossible g h = omega (arith, within g h)
-
   pub unlike : (combined syndromes (symbolsOf 10 (located (combined syndromes w))) ≡ combined syndromes w → ⊥) → Near w none
   unlike other = no-word (λ c g h. other (reached g h))
     where
@@ -83,14 +74,12 @@ module _ {w : List ℕ} (x : Word 10 w) where
     pub nearest : Near w near
 
   pub outcome : Outcome
-  outcome = go (leb (16 ^ 10) e) (eqb (combined syndromes (symbolsOf 10 e)) (combined syndromes w)) refl refl
+  outcome = go (eqb (combined syndromes (symbolsOf 10 e)) (combined syndromes w)) refl
     where
       e : ℕ
       e = located (combined syndromes w)
-
-      go : (far same : Bool) → leb (16 ^ 10) e ≡ far → eqb (combined syndromes (symbolsOf 10 e)) (combined syndromes w) ≡ same → Outcome
-      go true same f s = record { near = none; nearest = outside (leb-true (16 ^ 10) e f) }
-      go false false f s = record { near = none; nearest = unlike (eqb-false (combined syndromes (symbolsOf 10 e)) (combined syndromes w) s) }
-      go false true f s =
+      go : (same : Bool) → eqb (combined syndromes (symbolsOf 10 e)) (combined syndromes w) ≡ same → Outcome
+      go false s = record { near = none; nearest = unlike (eqb-false (combined syndromes (symbolsOf 10 e)) (combined syndromes w) s) }
+      go true s =
           let same : combined syndromes (symbolsOf 10 e) ≡ combined syndromes w = eqb-true (combined syndromes (symbolsOf 10 e)) (combined syndromes w) s in
           record { near = some (add w (symbolsOf 10 e)); nearest = repaired e same (located-light (combined syndromes w) syndrome-fits) }

@@ -35,22 +35,22 @@ symbols-word h B = two 0 (two 1 (two 5 (two 6 (two 7 end))))
         symbol high (symbol low r)
 
 -- ---- from the number to the bytes
-put-eight : (x b0 b1 b2 b3 b4 b5 b6 b7 : ℕ) → x < 2 ^ 40
-    → (x / 2 ^ 32) ∷ (x / 2 ^ 24 % 256) ∷ b2 ∷ b3 ∷ b4 ∷ (x / 2 ^ 16 % 256) ∷ (x / 2 ^ 8 % 256) ∷ (x % 256) ∷ []
+put-eight : (x b0 b1 b2 b3 b4 b5 b6 b7 : ℕ)
+    → (x / 2 ^ 32 % 256) ∷ (x / 2 ^ 24 % 256) ∷ b2 ∷ b3 ∷ b4 ∷ (x / 2 ^ 16 % 256) ∷ (x / 2 ^ 8 % 256) ∷ (x % 256) ∷ []
     ≡ placed (symbolsOf 10 x) (b0 ∷ b1 ∷ b2 ∷ b3 ∷ b4 ∷ b5 ∷ b6 ∷ b7 ∷ [])
 unfolding symbolsOf
-put-eight x b0 b1 b2 b3 b4 b5 b6 b7 h =
+put-eight x b0 b1 b2 b3 b4 b5 b6 b7 =
     ap₂ _∷_ (omega arith)
     (ap₂ _∷_ (omega arith) (ap (λ (w : List ℕ). b2 ∷ b3 ∷ b4 ∷ w) (ap₂ _∷_ (omega arith) (ap₂ _∷_ (omega arith) (ap₂ _∷_ (omega arith) refl)))))
 
-pub put-placed : (x : ℕ) (h : List ℕ) → length h ≡ 8 → x < 2 ^ 40
-    → set (set (set (set (set h 0 (x / 2 ^ 32)) 1 (x / 2 ^ 24 % 256)) 5 (x / 2 ^ 16 % 256)) 6 (x / 2 ^ 8 % 256)) 7 (x % 256) ≡ placed (symbolsOf 10 x) h
-put-placed x h l below =
+pub put-placed : (x : ℕ) (h : List ℕ) → length h ≡ 8
+    → set (set (set (set (set h 0 (x / 2 ^ 32 % 256)) 1 (x / 2 ^ 24 % 256)) 5 (x / 2 ^ 16 % 256)) 6 (x / 2 ^ 8 % 256)) 7 (x % 256) ≡ placed (symbolsOf 10 x) h
+put-placed x h l =
     let at : ℕ → ℕ = λ i. getD h i 0 in
     subst
-    (λ (k : List ℕ). set (set (set (set (set k 0 (x / 2 ^ 32)) 1 (x / 2 ^ 24 % 256)) 5 (x / 2 ^ 16 % 256)) 6 (x / 2 ^ 8 % 256)) 7 (x % 256)
+    (λ (k : List ℕ). set (set (set (set (set k 0 (x / 2 ^ 32 % 256)) 1 (x / 2 ^ 24 % 256)) 5 (x / 2 ^ 16 % 256)) 6 (x / 2 ^ 8 % 256)) 7 (x % 256)
     ≡ placed (symbolsOf 10 x) k)
-    (sym (spelled h 8 l)) (put-eight x (at 0) (at 1) (at 2) (at 3) (at 4) (at 5) (at 6) (at 7) below)
+    (sym (spelled h 8 l)) (put-eight x (at 0) (at 1) (at 2) (at 3) (at 4) (at 5) (at 6) (at 7))
 
 -- the symbols of a header are those placed in it
 pub symbols-placed : {w : List ℕ} (h : List ℕ) → Word 10 w → symbols (placed w h) ≡ w

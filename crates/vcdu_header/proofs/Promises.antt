@@ -28,7 +28,6 @@ use Rattle.vcdu_header.specs.declared.Repaired.the-variants as repaired
 use Rattle.vcdu_header.specs.Header.{symbols, counter, placed}
 use Rattle.vcdu_header.specs.Answers.{headerLines, isNone, repairLines, unchecked, told, checkValues, verdict, unrepaired, counted, repairValues, changes, restored}
 use Rattle.vcdu_header.specs.Promise.{EncodePromise, CheckPromise, RepairPromise}
-use Rattle.vcdu_header.specs.Steps.{Packs}
 use Rattle.vcdu_header.proofs.Bytes.{symbols-word, symbols-placed, placed-self, checks-placed}
 
 module _ (h : List ℕ) (bytes : (i : ℕ) → getD h i 0 < 256) where
@@ -61,10 +60,10 @@ module _ (h : List ℕ) (bytes : (i : ℕ) → getD h i 0 < 256) where
   encode-refused other =
       encode-promise h 22 (rw (ne-eqb (length h) 8 other)) (rw (ne-eqb (length h) 8 other)) (λ e. absurd (omega arith)) (λ i l. refl)
 
-  pub encode-done : (n z : ℕ) → length h ≡ 8 → Packs h n → z < 65536 → z ≡ combined checks (symbolsOf 10 n)
+  pub encode-done : (n z : ℕ) → length h ≡ 8 → symbolsOf 10 n ≡ symbols h → z < 65536 → z ≡ combined checks (symbolsOf 10 n)
       → EncodePromise h (set (set h 6 (z / 256)) 7 (z % 256)) 0
   encode-done n z eight p small e =
-      let same : z ≡ combined checks (symbols h) = e ∙ ap (combined checks) (p .symbols-are) in
+      let same : z ≡ combined checks (symbols h) = e ∙ ap (combined checks) p in
       let after : set (set h 6 (z / 256)) 7 (z % 256) ≡ placed word h =
       checks-placed h eight z small ∙ ap (λ (k : ℕ). placed (take 6 (symbols h) ++ symbolsOf 4 k) h) same in
       encode-promise _ 0 (rw (eq-eqb (length h) 8 eight)) (rw (eq-eqb (length h) 8 eight) after)
@@ -93,9 +92,9 @@ module _ (h : List ℕ) (bytes : (i : ℕ) → getD h i 0 < 256) where
   pub check-refused : (length h ≡ 8 → ⊥) → CheckPromise h (checked.Refused 22)
   check-refused other = check-promise _ (rw (ne-eqb (length h) 8 other))
 
-  module _ (n s : ℕ) (eight : length h ≡ 8) (p : Packs h n) (e : s ≡ combined syndromes (symbolsOf 10 n)) where
+  module _ (n s : ℕ) (eight : length h ≡ 8) (p : symbolsOf 10 n ≡ symbols h) (e : s ≡ combined syndromes (symbolsOf 10 n)) where
     is-left : s ≡ left
-    is-left = e ∙ ap (combined syndromes) (p .symbols-are)
+    is-left = e ∙ ap (combined syndromes) p
 
     pub check-good : s ≡ 0 → CheckPromise h checked.Good
     check-good z = check-promise _ (rw (eq-eqb (length h) 8 eight, eq-eqb left 0 (sym is-left ∙ z)))
@@ -156,9 +155,9 @@ module _ (h : List ℕ) (bytes : (i : ℕ) → getD h i 0 < 256) where
       let o = repairing.outcome x in
       repair-promise (o .near) (o .nearest) h _ (rw (ne-eqb (length h) 8 other)) (rw (ne-eqb (length h) 8 other))
 
-  module _ (n s : ℕ) (eight : length h ≡ 8) (p : Packs h n) (e : s ≡ combined syndromes (symbolsOf 10 n)) where
+  module _ (n s : ℕ) (eight : length h ≡ 8) (p : symbolsOf 10 n ≡ symbols h) (e : s ≡ combined syndromes (symbolsOf 10 n)) where
     is-syndrome : s ≡ left
-    is-syndrome = e ∙ ap (combined syndromes) (p .symbols-are)
+    is-syndrome = e ∙ ap (combined syndromes) p
 
     pub repair-clean : s ≡ 0 → RepairPromise h h (repaired.Corrected 0)
     repair-clean z =
@@ -173,9 +172,6 @@ module _ (h : List ℕ) (bytes : (i : ℕ) → getD h i 0 < 256) where
       lost : Near (symbols h) none → RepairPromise h h (repaired.Refused 23)
       lost none-near = repair-promise none none-near h _ (rw (eq-eqb (length h) 8 eight)) (rw (eq-eqb (length h) 8 eight))
 
-      pub repair-outside : 2 ^ 40 ≤ errors → RepairPromise h h (repaired.Refused 23)
-      repair-outside far = lost (repairing.outside x (subst (λ (k : ℕ). 16 ^ 10 ≤ k) is-located far))
-
       module _ (t : ℕ) (et : t ≡ combined syndromes (symbolsOf 10 errors)) where
         pub repair-unlike : (t ≡ s → ⊥) → RepairPromise h h (repaired.Refused 23)
         repair-unlike other =
@@ -188,7 +184,7 @@ module _ (h : List ℕ) (bytes : (i : ℕ) → getD h i 0 < 256) where
             let light : weight (symbolsOf 10 errors) ≤ 2 =
             subst (λ (k : ℕ). weight (symbolsOf 10 k) ≤ 2) (sym is-located) (located-light left (repairing.syndrome-fits x)) in
             let c = add (symbols h) (symbolsOf 10 errors) in
-            let sum : symbolsOf 10 (n ⊕ errors) ≡ c = symbols-sum 10 n errors ∙ ap (λ (w : List ℕ). add w (symbolsOf 10 errors)) (p .symbols-are) in
+            let sum : symbolsOf 10 (n ⊕ errors) ≡ c = symbols-sum 10 n errors ∙ ap (λ (w : List ℕ). add w (symbolsOf 10 errors)) p in
             repair-promise (some c) (repairing.repaired x errors alike light) after _
             (rw (eq-eqb (length h) 8 eight) (ap repaired.Corrected (ec ∙ sym (repairing.changed x errors alike))))
             (rw (eq-eqb (length h) 8 eight) (ea ∙ ap (λ (w : List ℕ). placed w h) sum))

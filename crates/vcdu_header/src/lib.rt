@@ -11,9 +11,6 @@ use base::refusal::NOT_A_HEADER;
 // A header has eight bytes.
 const HEADER: usize = 8;
 
-// Ten symbols are a number below this; what is located above lies in the virtual fill.
-const TEN_SYMBOLS: u64 = 1 << 40;
-
 // Whether a header's ten symbols are a code word, or the number of the refusal.
 pub enum Checked {
     Good,
@@ -69,9 +66,7 @@ pub fn repair(header: &mut [u8]) -> Repaired
         return Repaired::Corrected(0);
     }
     let errors = decoder::located(left);
-    if TEN_SYMBOLS <= errors {
-        return Repaired::Refused(NO_CODE_WORD);
-    }
+    // Where the symbols that are located among the ten do not explain the syndrome, an error lies in the virtual fill or there are three.
     if symbols::syndrome(errors) != left {
         return Repaired::Refused(NO_CODE_WORD);
     }

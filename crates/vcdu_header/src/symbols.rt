@@ -1,19 +1,19 @@
 // The ten symbols of a header as one number of 40 bits, the first symbol highest.
 ghost use mathlib.Core.Path.{_≡_};
-ghost use Prim.Native.Nat.{_+_, _*_, _^_, _≤_, _<_};
+ghost use Prim.Native.Nat.{_+_, _*_};
 ghost use lib.ListN.{length};
 ghost use Rattle.header_code.specs.Code.{weight};
 ghost use Rattle.header_code.specs.Symbols.{symbolsOf, combined};
 ghost use Rattle.header_code.specs.Decoder.{syndromes, checks};
-ghost use Rattle.vcdu_header.specs.Header.{placed};
-ghost use Rattle.vcdu_header.specs.Steps.{Packs, Mark};
+ghost use Rattle.vcdu_header.specs.Header.{symbols, placed};
+ghost use Rattle.vcdu_header.specs.Steps.{Mark};
 use crate::tables;
 use base::wide;
 
-// The symbols of a header.
+// The ten symbols of a header.
 pub fn pack(header: &[u8]) -> u64
     requires { ⌜ length (now header) ≡ 8 ⌝ }
-    ensures { λ r. ⌜ Packs (now (header .entry)) r ⌝ }
+    ensures { λ r. ⌜ symbolsOf 10 r ≡ symbols (now (header .entry)) ⌝ }
 {
     join(header[0], header[1], header[5], header[6], header[7])
 }
@@ -25,12 +25,12 @@ fn join(a: u8, b: u8, c: u8, d: u8, e: u8) -> u64
     (((wide(a) * 256 + wide(b)) * 256 + wide(c)) * 256 + wide(d)) * 256 + wide(e)
 }
 
-// Puts ten symbols into a header; the counter stays.
+// Puts the last ten symbols of a number into a header; the counter stays.
 pub fn put(header: &mut [u8], word: u64)
-    requires { ⌜ (length (now header) ≡ 8) × (word < 2 ^ 40) ⌝ }
+    requires { ⌜ length (now header) ≡ 8 ⌝ }
     ensures { λ _. ⌜ now (header .exit) ≡ placed (symbolsOf 10 word) (now (header .entry)) ⌝ }
 {
-    header[0] = (word / 0x1_0000_0000) as u8;
+    header[0] = (word / 0x1_0000_0000 % 256) as u8;
     header[1] = (word / 0x100_0000 % 256) as u8;
     header[5] = (word / 0x1_0000 % 256) as u8;
     header[6] = (word / 0x100 % 256) as u8;

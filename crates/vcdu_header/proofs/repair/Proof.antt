@@ -1,11 +1,10 @@
--- `vcdu_header::repair` meets its contract on each of its five ways out. What is located is below 2^40 where it is put, and so is the sum. Assumes nothing.
+-- `vcdu_header::repair` meets its contract on each of its four ways out. Assumes nothing.
 use Prim.Native.Nat.{ℕ, _<_}
 use native.Mathlib.Omega.{arith}
 use lib.ListN.{getD}
-use lib.Bits.{xor-lt}
 use denote.Ref.{now}
 use borrow.Author.Needs.{needs}
-use Rattle.vcdu_header.proofs.Promises.{repair-refused, repair-clean, repair-outside, repair-unlike, repair-done}
+use Rattle.vcdu_header.proofs.Promises.{repair-refused, repair-clean, repair-unlike, repair-done}
 use Rattle.vcdu_header.proofs.repair.Statement.{statement}
 use Rattle.vcdu_header.proofs.repair.Tie as tie
 
@@ -38,31 +37,16 @@ returns-2 c =
 located-requires : tie.Need-located-requires
 located-requires c κs = search needs
 
+syndrome-requires-2 : tie.Need-syndrome-requires-2
+syndrome-requires-2 c κs = search needs
+
 same-length-2 : tie.Need-same-length-2
 same-length-2 c = search needs
 
 returns-3 : tie.Need-returns-3
 returns-3 c =
-    let found = c .before in
-    let tested = found .before .before in
-    let packed = tested .before in
-    let eight = packed .before .before in
-    let entered = eight .before in
-    let header = now (entered .before .args .header) in
-    let bytes : (i : ℕ) → getD header i 0 < 256 = λ i. omega (arith, entered .slice-known .given i) in
-    repair-outside header bytes _ _ (eight .if1 .left) (packed .pack .ensures) (tested .syndrome .ensures) _ (found .located .ensures)
-    (c .if3 .taken)
-
-syndrome-requires-2 : tie.Need-syndrome-requires-2
-syndrome-requires-2 c κs = search needs
-
-same-length-3 : tie.Need-same-length-3
-same-length-3 c = search needs
-
-returns-4 : tie.Need-returns-4
-returns-4 c =
     let again = c .before in
-    let found = again .before .before in
+    let found = again .before in
     let tested = found .before .before in
     let packed = tested .before in
     let eight = packed .before .before in
@@ -70,29 +54,27 @@ returns-4 c =
     let header = now (entered .before .args .header) in
     let bytes : (i : ℕ) → getD header i 0 < 256 = λ i. omega (arith, entered .slice-known .given i) in
     repair-unlike header bytes _ _ (eight .if1 .left) (packed .pack .ensures) (tested .syndrome .ensures) _ (found .located .ensures)
-    _ (again .syndrome2 .ensures) (c .if4 .taken)
+    _ (again .syndrome2 .ensures) (c .if3 .taken)
 
 put-requires : tie.Need-put-requires
 put-requires c κs =
     let alike = c .before in
-    let within = alike .before .before in
-    let found = within .before in
+    let found = alike .before .before in
     let packed = found .before .before .before in
-    let eight = packed .before .before in
-    (eight .if1 .left, xor-lt 40 (packed .pack .result) (found .located .result) (packed .pack .ensures .below) (within .if3 .left))
+    packed .before .before .if1 .left
 
 weigh-requires : tie.Need-weigh-requires
 weigh-requires c κs = search needs
 
-same-length-4 : tie.Need-same-length-4
-same-length-4 c = search needs
+same-length-3 : tie.Need-same-length-3
+same-length-3 c = search needs
 
-returns-5 : tie.Need-returns-5
-returns-5 c =
+returns-4 : tie.Need-returns-4
+returns-4 c =
     let written = c .before .before .before in
     let alike = written .before .before in
     let again = alike .before in
-    let found = again .before .before in
+    let found = again .before in
     let tested = found .before .before in
     let packed = tested .before in
     let eight = packed .before .before in
@@ -100,7 +82,7 @@ returns-5 c =
     let header = now (entered .before .args .header) in
     let bytes : (i : ℕ) → getD header i 0 < 256 = λ i. omega (arith, entered .slice-known .given i) in
     repair-done header bytes _ _ (eight .if1 .left) (packed .pack .ensures) (tested .syndrome .ensures) _ (found .located .ensures)
-    _ (again .syndrome2 .ensures) (alike .if4 .left) _ _ (written .put .ensures) (c .weigh .ensures)
+    _ (again .syndrome2 .ensures) (alike .if3 .left) _ _ (written .put .ensures) (c .weigh .ensures)
 
 pub repair-spec : {M : Type 1} → statement M
 repair-spec =
@@ -112,12 +94,10 @@ repair-spec =
     same-length
     returns-2
     located-requires
+    syndrome-requires-2
     same-length-2
     returns-3
-    syndrome-requires-2
-    same-length-3
-    returns-4
     put-requires
     weigh-requires
-    same-length-4
-    returns-5)
+    same-length-3
+    returns-4)

@@ -41,7 +41,7 @@ same-length : tie.Need-same-length
 same-length c = search needs
 
 returns : tie.Need-returns
-returns c = put-placed (c .args .word) (now (c .args .header)) (c .pre .0) (c .pre .1)
+returns c = put-placed (c .args .word) (now (c .args .header)) (c .pre)
 
 pub put-spec : {M : Type 1} → statement M
 put-spec =
