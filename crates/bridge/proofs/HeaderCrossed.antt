@@ -11,7 +11,8 @@ use Rattle.vcdu_header.specs.declared.Checked.the-variants as checked
 use Rattle.vcdu_header.specs.declared.Repaired.{Repaired}
 use Rattle.vcdu_header.specs.declared.Repaired.the-variants as repaired
 use Rattle.vcdu_header.specs.Header.{symbols}
-use Rattle.vcdu_header.specs.Answers.{CheckValues, RepairValues, headerLines, repairLines, unchecked, told, checkValues, verdict, unrepaired, counted, repairValues, changes}
+use Rattle.vcdu_header.specs.Answers.{CheckValues, RepairValues, headerLines, repairLines, unchecked, told, checkValues, verdict, unrepaired, counted}
+use Rattle.vcdu_header.specs.Answers.{repairValues, changes}
 use Rattle.vcdu_header.specs.Promise.{CheckPromise, RepairPromise}
 use Rattle.bridge.specs.Headers.{CheckCrossed, RepairCrossed}
 

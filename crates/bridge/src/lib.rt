@@ -1,5 +1,5 @@
-// The library for programs in other languages: exported entries over the reader, the writer, word 72, its codecs and the lookup, one file for each.
-// include/pcd.h declares them for C.
+// The library for programs in other languages: exported entries over the reader, the writer, word 72, its codecs, the lookup and VCDU headers,
+// one file for each. include/pcd.h declares them for C.
 mod codecs;
 mod finding;
 mod headers;

@@ -78,6 +78,7 @@ module _ {w : List ℕ} (x : Word 10 w) where
     where
       e : ℕ
       e = located (combined syndromes w)
+
       go : (same : Bool) → eqb (combined syndromes (symbolsOf 10 e)) (combined syndromes w) ≡ same → Outcome
       go false s = record { near = none; nearest = unlike (eqb-false (combined syndromes (symbolsOf 10 e)) (combined syndromes w) s) }
       go true s =

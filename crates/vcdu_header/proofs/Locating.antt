@@ -7,7 +7,8 @@ use lib.Dec.{eqb}
 use lib.ListN.{getD}
 use borrow.Author.Tests.{eq-eqb, ne-eqb}
 use Rattle.header_code.specs.Field.{_⊕_}
-use Rattle.header_code.specs.Decoder.{digit, cell, products, quotients, roots, sixths, places, lifted, one, both, from-root, from-sums, two, by-determinant, from-values}
+use Rattle.header_code.specs.Decoder.{digit, cell, products, quotients, roots, sixths, places, lifted, one, both, from-root, from-sums, two}
+use Rattle.header_code.specs.Decoder.{by-determinant, from-values}
 
 -- a symbol at its place fits a number of 64 bits
 pub lift-fits : (a b : ℕ) → a < 16 → b ≤ 16 ^ 14 → a * b < 2 ^ 64

@@ -26,7 +26,8 @@ use Rattle.vcdu_header.specs.declared.Checked.the-variants as checked
 use Rattle.vcdu_header.specs.declared.Repaired.{Repaired}
 use Rattle.vcdu_header.specs.declared.Repaired.the-variants as repaired
 use Rattle.vcdu_header.specs.Header.{symbols, counter, placed}
-use Rattle.vcdu_header.specs.Answers.{headerLines, isNone, repairLines, unchecked, told, checkValues, verdict, unrepaired, counted, repairValues, changes, restored}
+use Rattle.vcdu_header.specs.Answers.{headerLines, isNone, repairLines, unchecked, told, checkValues, verdict, unrepaired, counted, repairValues}
+use Rattle.vcdu_header.specs.Answers.{changes, restored}
 use Rattle.vcdu_header.specs.Promise.{EncodePromise, CheckPromise, RepairPromise}
 use Rattle.vcdu_header.proofs.Bytes.{symbols-word, symbols-placed, placed-self, checks-placed}
 

@@ -12,7 +12,8 @@ use Rattle.vcdu_header.specs.declared.Checked.the-variants as checked
 use Rattle.vcdu_header.specs.declared.Repaired.{Repaired}
 use Rattle.vcdu_header.specs.declared.Repaired.the-variants as repaired
 use Rattle.vcdu_header.specs.Header.{symbols, counter, placed}
-use Rattle.vcdu_header.specs.Answers.{headerLines, repairLines, unchecked, told, checkValues, verdict, unrepaired, counted, repairValues, changes, restored}
+use Rattle.vcdu_header.specs.Answers.{headerLines, repairLines, unchecked, told, checkValues, verdict, unrepaired, counted, repairValues, changes}
+use Rattle.vcdu_header.specs.Answers.{restored}
 
 -- `encode` of a header answers r
 pub record EncodePromise (before after : List ℕ) (r : ℕ) : Type 0 where

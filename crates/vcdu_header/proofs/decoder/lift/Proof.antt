@@ -1,4 +1,5 @@
 -- `vcdu_header::decoder::lift` meets its contract: a symbol times its place fits, since no place is above 16^14. Assumes nothing.
+use Prim.Native.Nat.{_^_, _≤_}
 use borrow.Author.Needs.{needs}
 use Rattle.header_code.proofs.Light.{place-fits}
 use Rattle.header_code.specs.Decoder.{sixths}
@@ -16,7 +17,10 @@ place-requires : tie.Need-place-requires
 place-requires c κs = search needs
 
 mul-result : tie.Need-mul-result
-mul-result c = record { fits = lift-fits (c .before .product .result) (c .place .result) (c .before .product .ensures .small) (rw (c .place .ensures) (place-fits _ (search needs))) }
+mul-result c =
+    let scaled = c .before .product in
+    let low : c .place .result ≤ 16 ^ 14 = rw (c .place .ensures) (place-fits _ (search needs)) in
+    record { fits = lift-fits (scaled .result) (c .place .result) (scaled .ensures .small) low }
 
 returns : tie.Need-returns
 unfolding sixths

@@ -36,7 +36,7 @@ returns c =
     let bytes : (i : ℕ) → getD header i 0 < 256 = λ i. omega (arith, last-read .shared-slice-known6 .given i) in
     ap (symbolsOf 10) (c .join .ensures)
     ∙ packed-symbols (getD header 0 0) (getD header 1 0) (getD header 5 0) (getD header 6 0) (getD header 7 0) (bytes 0) (bytes 1) (bytes 5) (bytes 6)
-      (bytes 7)
+    (bytes 7)
 
 pub pack-spec : {M : Type 1} → statement M
 pack-spec =

@@ -1,4 +1,5 @@
--- `vcdu_header::symbols::weigh` meets its contract. The loop's invariant: the count is that of the last `place` symbols, and `rest` is what stands above them. Assumes nothing.
+-- `vcdu_header::symbols::weigh` meets its contract. The loop's invariant:
+-- the count is that of the last `place` symbols, and `rest` is what stands above them. Assumes nothing.
 use mathlib.Core.Path.{_≡_, refl, ap, _∙_}
 use Prim.Native.Nat.{ℕ, _-_, _/_, _%_, _^_, _≤_}
 use native.Mathlib.Omega.{arith}
