@@ -14,7 +14,9 @@ same-length : tie.Need-same-length
 same-length c = search needs
 
 returns : tie.Need-returns
-returns c = ?
+returns c =
+    let answered = c .before .before .before .before .before in
+    repair-crossed _ _ _ _ _ (answered .repair .ensures) (c .before .count .given .1)
 
 enum-known-number : tie.Need-enum-known-number
 enum-known-number c = search needs
@@ -23,7 +25,9 @@ same-length-2 : tie.Need-same-length-2
 same-length-2 c = search needs
 
 returns-2 : tie.Need-returns-2
-returns-2 c = ?
+returns-2 c =
+    let answered = c .before .before .before .before .before in
+    repair-crossed _ _ _ _ _ (answered .repair .ensures) (c .before .number .given .1)
 
 pub pcd-repair-header-spec : {M : Type 1} → statement M
 pcd-repair-header-spec =
