@@ -50,6 +50,9 @@ extern "C" {
         lines: *mut u64,
     ) -> u8;
     fn pcd_find(instants: *const u64, instants_len: usize, wanted: u64, out: *mut [u64; 2]) -> u8;
+    fn pcd_encode_header(header: *mut u8, header_len: usize) -> u8;
+    fn pcd_check_header(header: *const u8, header_len: usize, out: *mut u64) -> u8;
+    fn pcd_repair_header(header: *mut u8, header_len: usize, out: *mut u64) -> u8;
 }
 
 // A tally as it crosses.
@@ -183,4 +186,16 @@ pub fn book_body(book: &[u8], i: u64, out: &mut [u64; 2]) -> u8 {
 
 pub fn book_compare(first: &[u8], second: &[u8], table: &mut [u64], lines: &mut u64) -> u8 {
     unsafe { pcd_book_compare(first.as_ptr(), first.len(), second.as_ptr(), second.len(), table.as_mut_ptr(), table.len(), lines) }
+}
+
+pub fn encode_header(header: &mut [u8]) -> u8 {
+    unsafe { pcd_encode_header(header.as_mut_ptr(), header.len()) }
+}
+
+pub fn check_header(header: &[u8], out: &mut u64) -> u8 {
+    unsafe { pcd_check_header(header.as_ptr(), header.len(), out) }
+}
+
+pub fn repair_header(header: &mut [u8], out: &mut u64) -> u8 {
+    unsafe { pcd_repair_header(header.as_mut_ptr(), header.len(), out) }
 }

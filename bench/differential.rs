@@ -18,6 +18,7 @@ mod plain;
 mod stream;
 mod tally;
 mod tuned;
+mod vcdu_header;
 mod writer;
 
 use std::env;
@@ -213,6 +214,7 @@ impl Trial {
         }
         writer::trials(&mut self.r)?;
         lookup::trials(&mut self.r)?;
+        vcdu_header::trials(&mut self.r)?;
         codecs::trials(&mut self.r)?;
         items::trials(&mut self.r, &mut seen.word72)?;
         book::trials(&mut self.r, &mut seen.books)?;

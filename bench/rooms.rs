@@ -16,6 +16,9 @@ mod lookup;
 mod stream;
 #[allow(dead_code)]
 mod tally;
+#[allow(dead_code)]
+mod vcdu_header;
+mod vcdu_timing;
 
 use std::hint::black_box;
 use std::time::Instant;
@@ -51,6 +54,8 @@ fn main() {
     println!("{:<18} | {:>7} {:>7} {:>7} | {:>7}", "cycles", "compare", "checks", "memcmp", "beside");
     print_compare("16 (1.0 MB)", 16);
     print_compare("255 (16.7 MB)", book::MOST);
+    println!();
+    vcdu_timing::print();
 }
 
 const BOOKS: usize = 60;

@@ -48,6 +48,8 @@ extern "C" {
 #define PCD_WRONG_OFFSET 19      /* an entry's offset is not its body's */
 #define PCD_NO_SUCH_ENTRY 20     /* the book has no such entry */
 #define PCD_YEARS_DIFFER 21      /* two books are of different years */
+#define PCD_NOT_A_HEADER 22      /* a VCDU header has another length than eight bytes */
+#define PCD_NO_CODE_WORD 23      /* no code word lies within two symbols of a VCDU header's */
 
 /* ---- Sizes */
 
@@ -211,6 +213,17 @@ uint8_t pcd_book_body(const uint8_t *book, size_t book_len, uint64_t i, uint64_t
  * lines gets how many there are; the rest of the table stays. Books are equal byte for byte exactly where there are none. Refused, in this order: 2,
  * another size of the table; those of pcd_book_view_refusal for the first, then for the second; 21. */
 uint8_t pcd_book_compare(const uint8_t *first, size_t first_len, const uint8_t *second, size_t second_len, uint64_t *table, size_t table_len, uint64_t *lines);
+/* ---- VCDU headers of eight bytes: bytes 0, 1 and 5 are six symbols of four bits, which the four check symbols in bytes 6 and 7 protect. The
+ * counter in bytes 2 to 4 is not protected, and never changes. */
+
+/* Writes the check symbols. Refused: 22. */
+uint8_t pcd_encode_header(uint8_t *header, size_t header_len);
+
+/* Whether the ten symbols are a code word: out gets 1 or 0. Refused: 22. */
+uint8_t pcd_check_header(const uint8_t *header, size_t header_len, uint64_t *out);
+
+/* Puts the only code word within two symbols into the header; out gets how many symbols were wrong. Refused: 22; 23, there is none. */
+uint8_t pcd_repair_header(uint8_t *header, size_t header_len, uint64_t *out);
 
 #ifdef __cplusplus
 }

@@ -61,3 +61,8 @@ pub const NO_SUCH_ENTRY: u8 = 20;
 
 // The years of two books differ.
 pub const YEARS_DIFFER: u8 = 21;
+// A VCDU header has another length than eight bytes.
+pub const NOT_A_HEADER: u8 = 22;
+
+// No code word lies within two symbols of a VCDU header's.
+pub const NO_CODE_WORD: u8 = 23;

@@ -1,5 +1,6 @@
 pub mod Books
 pub mod Comparing
 pub mod Finding
+pub mod Headers
 pub mod LentPlaces
 pub mod Word72

@@ -1,9 +1,10 @@
-// The library for programs in other languages: exported entries over the reader, the writer, word 72, its codecs, the lookup and books, one file for each.
-// include/pcd.h declares them for C.
+// The library for programs in other languages: exported entries over the reader, the writer, word 72, its codecs, the lookup, books, VCDU headers,
+// the frame store and the data pointer, one file for each. include/pcd.h declares them for C.
 mod books;
 mod codecs;
 mod comparing;
 mod finding;
+mod headers;
 mod reading;
 mod word72;
 mod writing;
@@ -20,6 +21,9 @@ pub use codecs::pcd_encode_number;
 pub use codecs::pcd_encode_time;
 pub use comparing::pcd_book_compare;
 pub use finding::pcd_find;
+pub use headers::pcd_check_header;
+pub use headers::pcd_encode_header;
+pub use headers::pcd_repair_header;
 pub use reading::pcd_change_duty;
 pub use reading::pcd_fresh;
 pub use reading::pcd_take;

@@ -1,0 +1,13 @@
+pub mod Every
+pub mod Patterns
+pub mod Sums
+pub mod Field
+pub mod Words
+pub mod Symbols
+pub mod Syndromes
+pub mod Decoding
+pub mod Unique
+pub mod Encoding
+pub mod Light
+pub mod Repairing
+pub mod Book

@@ -1,0 +1,4 @@
+pub mod Header
+pub mod Answers
+pub mod Promise
+pub mod Steps
