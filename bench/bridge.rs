@@ -26,6 +26,10 @@ extern "C" {
     fn pcd_part_refusal(column: *const u8, column_len: usize, kind: u64, item: u64) -> u8;
     fn pcd_read(column: *const u8, column_len: usize, kind: u64, item: u64, out: *mut [u64; 9], number: *mut f64) -> u8;
     fn pcd_find(instants: *const u64, instants_len: usize, wanted: u64, out: *mut [u64; 2]) -> u8;
+    fn pcd_next_pointer(p: u64, out: *mut u64) -> u8;
+    fn pcd_previous_pointer(p: u64, out: *mut u64) -> u8;
+    fn pcd_pointer_after(p: u64, n: u64, out: *mut u64) -> u8;
+    fn pcd_pointer_distance(p: u64, q: u64, out: *mut u64) -> u8;
 }
 
 // A tally as it crosses.
@@ -125,4 +129,20 @@ pub fn read(column: &[u8], kind: u64, item: u64, out: &mut [u64; 9], number: &mu
 
 pub fn find(instants: &[u64], wanted: u64, out: &mut [u64; 2]) -> u8 {
     unsafe { pcd_find(instants.as_ptr(), instants.len(), wanted, out) }
+}
+
+pub fn next_pointer(p: u64, out: &mut u64) -> u8 {
+    unsafe { pcd_next_pointer(p, out) }
+}
+
+pub fn previous_pointer(p: u64, out: &mut u64) -> u8 {
+    unsafe { pcd_previous_pointer(p, out) }
+}
+
+pub fn pointer_after(p: u64, n: u64, out: &mut u64) -> u8 {
+    unsafe { pcd_pointer_after(p, n, out) }
+}
+
+pub fn pointer_distance(p: u64, q: u64, out: &mut u64) -> u8 {
+    unsafe { pcd_pointer_distance(p, q, out) }
 }

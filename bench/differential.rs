@@ -5,6 +5,7 @@
 mod bridge;
 mod bytewise;
 mod codecs;
+mod data_pointer;
 mod disorder;
 mod entry;
 mod items;
@@ -172,6 +173,7 @@ impl Trial {
         self.streaming("nominal", nominal::take)?;
         writer::trials(&mut self.r)?;
         lookup::trials(&mut self.r)?;
+        data_pointer::trials(&mut self.r)?;
         codecs::trials(&mut self.r)?;
         items::trials(&mut self.r, &mut seen.word72)
     }

@@ -36,6 +36,8 @@ extern "C" {
 #define PCD_NOT_NORMALISED 10    /* a six-byte number is not normalised */
 #define PCD_NO_WORD_FOR_DOUBLE 11 /* a double has no six-byte word */
 #define PCD_LIST_TOO_LONG 12     /* a list of instants is longer than 100,000 */
+#define PCD_NO_SUCH_POINTER 28   /* a data pointer is above 84 */
+#define PCD_TOO_MANY_FRAMES 29   /* the frames to go on are more than 2^24 - 1 */
 
 /* ---- Sizes */
 
@@ -143,6 +145,20 @@ uint8_t pcd_encode_number(double x, uint8_t *out, size_t out_len);
 /* Finds the last instant at or before the wanted one, by halving: out gets its place plus one, 0 for none, and how many instants were looked
  * at. Of a list that does not rise, the place that halving comes to. Refused: 12. */
 uint8_t pcd_find(const uint64_t *instants, size_t instants_len, uint64_t wanted, uint64_t out[2]);
+
+/* ---- The data pointer, 0 to 84 */
+
+/* The pointer of the next frame. Refused: 28. */
+uint8_t pcd_next_pointer(uint64_t p, uint64_t *out);
+
+/* The pointer of the frame before. Refused: 28. */
+uint8_t pcd_previous_pointer(uint64_t p, uint64_t *out);
+
+/* The pointer n frames on, n up to 2^24 - 1. Refused: 28, 29. */
+uint8_t pcd_pointer_after(uint64_t p, uint64_t n, uint64_t *out);
+
+/* The smallest number of frames from p on to q, 0 to 84. Refused: 28, either pointer. */
+uint8_t pcd_pointer_distance(uint64_t p, uint64_t q, uint64_t *out);
 
 #ifdef __cplusplus
 }

@@ -35,3 +35,9 @@ pub const NO_WORD_FOR_DOUBLE: u8 = 11;
 
 // A list of instants is longer than 100,000.
 pub const LIST_TOO_LONG: u8 = 12;
+
+// A data pointer is above 84.
+pub const NO_SUCH_POINTER: u8 = 28;
+
+// The frames to go on are more than 2^24 - 1.
+pub const TOO_MANY_FRAMES: u8 = 29;

@@ -1,3 +1,4 @@
 pub mod Answers
 pub mod FoundCrossed
+pub mod PointerCrossed
 pub mod WordCrossed

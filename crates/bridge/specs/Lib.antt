@@ -1,3 +1,4 @@
 pub mod Finding
 pub mod LentPlaces
+pub mod Pointer
 pub mod Word72

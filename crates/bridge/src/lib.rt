@@ -2,6 +2,7 @@
 // include/pcd.h declares them for C.
 mod codecs;
 mod finding;
+mod pointer;
 mod reading;
 mod word72;
 mod writing;
@@ -11,6 +12,10 @@ pub use codecs::pcd_decode_time;
 pub use codecs::pcd_encode_number;
 pub use codecs::pcd_encode_time;
 pub use finding::pcd_find;
+pub use pointer::pcd_next_pointer;
+pub use pointer::pcd_pointer_after;
+pub use pointer::pcd_pointer_distance;
+pub use pointer::pcd_previous_pointer;
 pub use reading::pcd_fresh;
 pub use reading::pcd_take;
 pub use word72::pcd_describe;
