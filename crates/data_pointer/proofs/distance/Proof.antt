@@ -1,5 +1,4 @@
 -- `data_pointer::distance` meets its contract: as often 47 steps as q lies above p, modulo 85. Assumes nothing.
-use mathlib.Core.Path.{refl}
 use native.Mathlib.Omega.{arith}
 use borrow.Author.Needs.{needs}
 use Rattle.data_pointer.proofs.Promises.{distance-no-start, distance-no-end, distance-given}
@@ -22,7 +21,7 @@ mul-t6 : tie.Need-mul-t6
 mul-t6 c = search needs
 
 returns-3 : tie.Need-returns-3
-returns-3 c = let a = c .before .before .args in distance-given (a .p) (a .q) _ (omega arith) (omega arith) refl
+returns-3 c = let a = c .before .before .args in distance-given (a .p) (a .q) _ (omega arith) (omega arith) (omega arith)
 
 pub distance-spec : {M : Type 1} → statement M
 distance-spec = tie.close (tie.spec returns returns-2 add-t4 sub-t5 mul-t6 returns-3)
