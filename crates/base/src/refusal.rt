@@ -36,6 +36,18 @@ pub const NO_WORD_FOR_DOUBLE: u8 = 11;
 // A list of instants is longer than 100,000.
 pub const LIST_TOO_LONG: u8 = 12;
 
+// An area is not a whole number of slots of 16,384 bytes, 1 to 64 of them.
+pub const NOT_WHOLE_SLOTS: u8 = 24;
+
+// Bits are set beyond the slots.
+pub const BITS_BEYOND_SLOTS: u8 = 25;
+
+// Every slot is in use.
+pub const NO_FREE_SLOT: u8 = 26;
+
+// A slot is not in use, or not there.
+pub const NO_SUCH_SLOT: u8 = 27;
+
 // A data pointer is above 84.
 pub const NO_SUCH_POINTER: u8 = 28;
 
