@@ -26,6 +26,9 @@ extern "C" {
     fn pcd_part_refusal(column: *const u8, column_len: usize, kind: u64, item: u64) -> u8;
     fn pcd_read(column: *const u8, column_len: usize, kind: u64, item: u64, out: *mut [u64; 9], number: *mut f64) -> u8;
     fn pcd_find(instants: *const u64, instants_len: usize, wanted: u64, out: *mut [u64; 2]) -> u8;
+    fn pcd_store(area: *mut u8, area_len: usize, bits: *mut u64, frame: *const u8, frame_len: usize, slot: *mut u64) -> u8;
+    fn pcd_release(area: *const u8, area_len: usize, bits: *mut u64, slot: u64) -> u8;
+    fn pcd_slot_refusal(area: *const u8, area_len: usize, bits: u64, slot: u64) -> u8;
     fn pcd_next_pointer(p: u64, out: *mut u64) -> u8;
     fn pcd_previous_pointer(p: u64, out: *mut u64) -> u8;
     fn pcd_pointer_after(p: u64, n: u64, out: *mut u64) -> u8;
@@ -129,6 +132,18 @@ pub fn read(column: &[u8], kind: u64, item: u64, out: &mut [u64; 9], number: &mu
 
 pub fn find(instants: &[u64], wanted: u64, out: &mut [u64; 2]) -> u8 {
     unsafe { pcd_find(instants.as_ptr(), instants.len(), wanted, out) }
+}
+
+pub fn store(area: &mut [u8], bits: &mut u64, frame: &[u8], slot: &mut u64) -> u8 {
+    unsafe { pcd_store(area.as_mut_ptr(), area.len(), bits, frame.as_ptr(), frame.len(), slot) }
+}
+
+pub fn release(area: &[u8], bits: &mut u64, slot: u64) -> u8 {
+    unsafe { pcd_release(area.as_ptr(), area.len(), bits, slot) }
+}
+
+pub fn slot_refusal(area: &[u8], bits: u64, slot: u64) -> u8 {
+    unsafe { pcd_slot_refusal(area.as_ptr(), area.len(), bits, slot) }
 }
 
 pub fn next_pointer(p: u64, out: &mut u64) -> u8 {

@@ -8,6 +8,7 @@ mod codecs;
 mod data_pointer;
 mod disorder;
 mod entry;
+mod frame_store;
 mod items;
 mod lookup;
 mod nominal;
@@ -174,6 +175,7 @@ impl Trial {
         writer::trials(&mut self.r)?;
         lookup::trials(&mut self.r)?;
         data_pointer::trials(&mut self.r)?;
+        frame_store::trials(&mut self.r)?;
         codecs::trials(&mut self.r)?;
         items::trials(&mut self.r, &mut seen.word72)
     }

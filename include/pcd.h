@@ -36,6 +36,10 @@ extern "C" {
 #define PCD_NOT_NORMALISED 10    /* a six-byte number is not normalised */
 #define PCD_NO_WORD_FOR_DOUBLE 11 /* a double has no six-byte word */
 #define PCD_LIST_TOO_LONG 12     /* a list of instants is longer than 100,000 */
+#define PCD_NOT_WHOLE_SLOTS 24   /* an area is not a whole number of slots of 16,384 bytes, 1 to 64 of them */
+#define PCD_BITS_BEYOND_SLOTS 25 /* bits are set beyond the slots */
+#define PCD_NO_FREE_SLOT 26      /* every slot is in use */
+#define PCD_NO_SUCH_SLOT 27      /* a slot is not in use, or not there */
 #define PCD_NO_SUCH_POINTER 28   /* a data pointer is above 84 */
 #define PCD_TOO_MANY_FRAMES 29   /* the frames to go on are more than 2^24 - 1 */
 
@@ -145,6 +149,20 @@ uint8_t pcd_encode_number(double x, uint8_t *out, size_t out_len);
 /* Finds the last instant at or before the wanted one, by halving: out gets its place plus one, 0 for none, and how many instants were looked
  * at. Of a list that does not rise, the place that halving comes to. Refused: 12. */
 uint8_t pcd_find(const uint64_t *instants, size_t instants_len, uint64_t wanted, uint64_t out[2]);
+
+/* ---- Frames held in the slots of an area
+ *
+ * The area is 1 to 64 slots of PCD_MAJOR_FRAME bytes; slot i begins at i * PCD_MAJOR_FRAME. The bits tell which are in use, 2^i for slot i: begin with
+ * 0 and hand on what each call leaves. */
+
+/* Puts a frame of PCD_MAJOR_FRAME bytes into the lowest free slot: slot gets it, bits those afterwards. Refused: 2, the frame's length; 24; 25; 26. */
+uint8_t pcd_store(uint8_t *area, size_t area_len, uint64_t *bits, const uint8_t *frame, size_t frame_len, uint64_t *slot);
+
+/* Frees a slot and writes nothing but the bits. Refused: 24, 25, 27. */
+uint8_t pcd_release(const uint8_t *area, size_t area_len, uint64_t *bits, uint64_t slot);
+
+/* Whether a slot holds a frame, which then stands in the area at slot * PCD_MAJOR_FRAME. Refused: 24, 25, 27. */
+uint8_t pcd_slot_refusal(const uint8_t *area, size_t area_len, uint64_t bits, uint64_t slot);
 
 /* ---- The data pointer, 0 to 84 */
 

@@ -1,4 +1,5 @@
 pub mod Answers
 pub mod FoundCrossed
 pub mod PointerCrossed
+pub mod SlotsCrossed
 pub mod WordCrossed

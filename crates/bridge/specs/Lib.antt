@@ -1,4 +1,5 @@
 pub mod Finding
 pub mod LentPlaces
 pub mod Pointer
+pub mod Slots
 pub mod Word72

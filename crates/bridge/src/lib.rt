@@ -4,6 +4,7 @@ mod codecs;
 mod finding;
 mod pointer;
 mod reading;
+mod slots;
 mod word72;
 mod writing;
 
@@ -18,6 +19,9 @@ pub use pointer::pcd_pointer_distance;
 pub use pointer::pcd_previous_pointer;
 pub use reading::pcd_fresh;
 pub use reading::pcd_take;
+pub use slots::pcd_release;
+pub use slots::pcd_slot_refusal;
+pub use slots::pcd_store;
 pub use word72::pcd_describe;
 pub use word72::pcd_gather;
 pub use word72::pcd_item_count;
