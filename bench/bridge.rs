@@ -53,6 +53,13 @@ extern "C" {
     fn pcd_encode_header(header: *mut u8, header_len: usize) -> u8;
     fn pcd_check_header(header: *const u8, header_len: usize, out: *mut u64) -> u8;
     fn pcd_repair_header(header: *mut u8, header_len: usize, out: *mut u64) -> u8;
+    fn pcd_store(area: *mut u8, area_len: usize, bits: *mut u64, frame: *const u8, frame_len: usize, slot: *mut u64) -> u8;
+    fn pcd_release(area: *const u8, area_len: usize, bits: *mut u64, slot: u64) -> u8;
+    fn pcd_slot_refusal(area: *const u8, area_len: usize, bits: u64, slot: u64) -> u8;
+    fn pcd_next_pointer(p: u64, out: *mut u64) -> u8;
+    fn pcd_previous_pointer(p: u64, out: *mut u64) -> u8;
+    fn pcd_pointer_after(p: u64, n: u64, out: *mut u64) -> u8;
+    fn pcd_pointer_distance(p: u64, q: u64, out: *mut u64) -> u8;
 }
 
 // A tally as it crosses.
@@ -198,4 +205,32 @@ pub fn check_header(header: &[u8], out: &mut u64) -> u8 {
 
 pub fn repair_header(header: &mut [u8], out: &mut u64) -> u8 {
     unsafe { pcd_repair_header(header.as_mut_ptr(), header.len(), out) }
+}
+
+pub fn store(area: &mut [u8], bits: &mut u64, frame: &[u8], slot: &mut u64) -> u8 {
+    unsafe { pcd_store(area.as_mut_ptr(), area.len(), bits, frame.as_ptr(), frame.len(), slot) }
+}
+
+pub fn release(area: &[u8], bits: &mut u64, slot: u64) -> u8 {
+    unsafe { pcd_release(area.as_ptr(), area.len(), bits, slot) }
+}
+
+pub fn slot_refusal(area: &[u8], bits: u64, slot: u64) -> u8 {
+    unsafe { pcd_slot_refusal(area.as_ptr(), area.len(), bits, slot) }
+}
+
+pub fn next_pointer(p: u64, out: &mut u64) -> u8 {
+    unsafe { pcd_next_pointer(p, out) }
+}
+
+pub fn previous_pointer(p: u64, out: &mut u64) -> u8 {
+    unsafe { pcd_previous_pointer(p, out) }
+}
+
+pub fn pointer_after(p: u64, n: u64, out: &mut u64) -> u8 {
+    unsafe { pcd_pointer_after(p, n, out) }
+}
+
+pub fn pointer_distance(p: u64, q: u64, out: &mut u64) -> u8 {
+    unsafe { pcd_pointer_distance(p, q, out) }
 }

@@ -50,6 +50,12 @@ extern "C" {
 #define PCD_YEARS_DIFFER 21      /* two books are of different years */
 #define PCD_NOT_A_HEADER 22      /* a VCDU header has another length than eight bytes */
 #define PCD_NO_CODE_WORD 23      /* no code word lies within two symbols of a VCDU header's */
+#define PCD_NOT_WHOLE_SLOTS 24   /* an area is not a whole number of slots of 16,384 bytes, 1 to 64 of them */
+#define PCD_BITS_BEYOND_SLOTS 25 /* bits are set beyond the slots */
+#define PCD_NO_FREE_SLOT 26      /* every slot is in use */
+#define PCD_NO_SUCH_SLOT 27      /* a slot is not in use, or not there */
+#define PCD_NO_SUCH_POINTER 28   /* a data pointer is above 84 */
+#define PCD_TOO_MANY_FRAMES 29   /* the frames to go on are more than 2^24 - 1 */
 
 /* ---- Sizes */
 
@@ -224,6 +230,33 @@ uint8_t pcd_check_header(const uint8_t *header, size_t header_len, uint64_t *out
 
 /* Puts the only code word within two symbols into the header; out gets how many symbols were wrong. Refused: 22; 23, there is none. */
 uint8_t pcd_repair_header(uint8_t *header, size_t header_len, uint64_t *out);
+/* ---- Frames held in the slots of an area
+ *
+ * The area is 1 to 64 slots of PCD_MAJOR_FRAME bytes; slot i begins at i * PCD_MAJOR_FRAME. The bits tell which are in use, 2^i for slot i: begin with
+ * 0 and hand on what each call leaves. */
+
+/* Puts a frame of PCD_MAJOR_FRAME bytes into the lowest free slot: slot gets it, bits those afterwards. Refused: 2, the frame's length; 24; 25; 26. */
+uint8_t pcd_store(uint8_t *area, size_t area_len, uint64_t *bits, const uint8_t *frame, size_t frame_len, uint64_t *slot);
+
+/* Frees a slot and writes nothing but the bits. Refused: 24, 25, 27. */
+uint8_t pcd_release(const uint8_t *area, size_t area_len, uint64_t *bits, uint64_t slot);
+
+/* Whether a slot holds a frame, which then stands in the area at slot * PCD_MAJOR_FRAME. Refused: 24, 25, 27. */
+uint8_t pcd_slot_refusal(const uint8_t *area, size_t area_len, uint64_t bits, uint64_t slot);
+
+/* ---- The data pointer, 0 to 84 */
+
+/* The pointer of the next frame. Refused: 28. */
+uint8_t pcd_next_pointer(uint64_t p, uint64_t *out);
+
+/* The pointer of the frame before. Refused: 28. */
+uint8_t pcd_previous_pointer(uint64_t p, uint64_t *out);
+
+/* The pointer n frames on, n up to 2^24 - 1. Refused: 28, 29. */
+uint8_t pcd_pointer_after(uint64_t p, uint64_t n, uint64_t *out);
+
+/* The smallest number of frames from p on to q, 0 to 84. Refused: 28, either pointer. */
+uint8_t pcd_pointer_distance(uint64_t p, uint64_t q, uint64_t *out);
 
 #ifdef __cplusplus
 }

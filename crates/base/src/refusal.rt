@@ -38,6 +38,7 @@ pub const LIST_TOO_LONG: u8 = 12;
 
 // A year is outside 1999 to 2099.
 pub const YEAR_OUTSIDE_SPAN: u8 = 13;
+
 // The operator's number is above 7.
 pub const NO_SUCH_OPERATOR: u8 = 14;
 
@@ -61,8 +62,27 @@ pub const NO_SUCH_ENTRY: u8 = 20;
 
 // The years of two books differ.
 pub const YEARS_DIFFER: u8 = 21;
+
 // A VCDU header has another length than eight bytes.
 pub const NOT_A_HEADER: u8 = 22;
 
 // No code word lies within two symbols of a VCDU header's.
 pub const NO_CODE_WORD: u8 = 23;
+
+// An area is not a whole number of slots of 16,384 bytes, 1 to 64 of them.
+pub const NOT_WHOLE_SLOTS: u8 = 24;
+
+// Bits are set beyond the slots.
+pub const BITS_BEYOND_SLOTS: u8 = 25;
+
+// Every slot is in use.
+pub const NO_FREE_SLOT: u8 = 26;
+
+// A slot is not in use, or not there.
+pub const NO_SUCH_SLOT: u8 = 27;
+
+// A data pointer is above 84.
+pub const NO_SUCH_POINTER: u8 = 28;
+
+// The frames to go on are more than 2^24 - 1.
+pub const TOO_MANY_FRAMES: u8 = 29;

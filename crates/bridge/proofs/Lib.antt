@@ -3,4 +3,6 @@ pub mod BookCrossed
 pub mod ComparedCrossed
 pub mod FoundCrossed
 pub mod HeaderCrossed
+pub mod PointerCrossed
+pub mod SlotsCrossed
 pub mod WordCrossed
