@@ -155,4 +155,5 @@ module _ (y : ℕ) (bodies out : List ℕ) where
           }
         where
           positive : Positive lines
-          positive = (λ z. omega arith, (λ z. omega arith, (λ z. omega arith, (λ z. omega arith, (λ z. omega arith, (λ z. omega arith, (λ z. omega arith, tt)))))))
+          positive =
+              (λ z. omega arith, (λ z. omega arith, (λ z. omega arith, (λ z. omega arith, (λ z. omega arith, (λ z. omega arith, (λ z. omega arith, tt)))))))

@@ -2,7 +2,7 @@
 use mathlib.Core.Path.{_≡_, ap, _∙_}
 use mathlib.Core.List.{List, [], _∷_}
 use Prim.Native.Nat.{ℕ}
-use mir.Syntax.{named, imm, w8, tyInt, tyRef}
+use mir.Syntax.{Ty, named, imm, w8, tyInt, tyRef}
 use denote.Builtin.{u8, SliceRefOf}
 use denote.Slice.{sliceTy, shr-slice-lawful}
 use denote.Ref.{RefT, now}
@@ -31,6 +31,9 @@ use Rattle.book_view.proofs.entry_of.Code as code
 abbrev slot : Slot 1
 slot = SliceRefOf (0 ∷ []) tt (plain (λ κs. u8)) (λ κs. tt)
 
+abbrev τ : Ty
+τ = sliceTy (tyRef (named 0) imm (tyInt w8))
+
 abbrev Says : Lfts 1 → RefT (List ℕ) → ℕ → RefT (List ℕ) → Type 0
 Says κs s i r = IsPart r s (entryPlace (now s) i)
 
@@ -45,9 +48,9 @@ unfolding code.routine tablesOf
 entry-of-spec 𝓤 H 𝓜 𝓖 𝓡 =
     entered 𝓤 H (tripleOf 𝓤 H (𝓖 .A) here.signature (here.spec 𝓤 H (𝓖 .A) (𝓜 .mem) (𝓡 .run)))
     (tables 𝓤 H 𝓜 𝓡 code.env .C) (tables 𝓤 H 𝓜 𝓡 code.env .Λ) #here code.function (code.unfolded 𝓤 H 𝓜 𝓡)
-    (meets slot (sliceTy (tyRef (named 0) imm (tyInt w8))) #view #callee Says Final follows 𝓤 H (𝓖 .A) (givenOf 𝓤 H 𝓜 𝓖)
+    (meets slot τ #view #callee Says Final follows 𝓤 H (𝓖 .A) (givenOf 𝓤 H 𝓜 𝓖)
     (λ κs r u is. shr-slice-lawful 𝓤 H (𝓖 .A) (givenOf 𝓤 H 𝓜 𝓖) (named 0) (κs .0) u8 .typed r _ is .0)
     (tablesOf 𝓤 H 𝓜 (tables 𝓤 H 𝓜 𝓡 code.env))
     (cited 𝓤 H (View 𝓤 H (𝓖 .A)) 𝓜 𝓡 code.env #view view-def.routine code.calls-book-view·view (view-thm.met 𝓤 H 𝓜 𝓖 𝓡))
-    (cited 𝓤 H (Handed slot (sliceTy (tyRef (named 0) imm (tyInt w8))) #view #callee Says Final follows 𝓤 H (𝓖 .A)) 𝓜 𝓡 code.env #callee callee-def.routine code.calls-book-view·entry
+    (cited 𝓤 H (Handed slot τ #view #callee Says Final follows 𝓤 H (𝓖 .A)) 𝓜 𝓡 code.env #callee callee-def.routine code.calls-book-view·entry
     (callee-thm.met 𝓤 H 𝓜 𝓖 𝓡)))

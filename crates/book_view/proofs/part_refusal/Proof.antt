@@ -34,4 +34,5 @@ part-refusal-spec 𝓤 H 𝓜 𝓖 𝓡 =
     (meets (plain (λ κs. u8)) (tyInt w8) #callee Says 𝓤 H (𝓖 .A) (givenOf 𝓤 H 𝓜 𝓖)
     (λ κs r u is. uint-lawful 𝓤 H (𝓖 .A) (givenOf 𝓤 H 𝓜 𝓖) w8 .typed r _ is .0)
     (tablesOf 𝓤 H 𝓜 (tables 𝓤 H 𝓜 𝓡 code.env))
-    (cited 𝓤 H (Callee (plain (λ κs. u8)) (tyInt w8) #callee Says 𝓤 H (𝓖 .A)) 𝓜 𝓡 code.env #callee callee-def.routine code.calls-book·part-refusal (callee-thm.met 𝓤 H 𝓜 𝓖 𝓡)))
+    (cited 𝓤 H (Callee (plain (λ κs. u8)) (tyInt w8) #callee Says 𝓤 H (𝓖 .A)) 𝓜 𝓡 code.env #callee callee-def.routine code.calls-book·part-refusal
+    (callee-thm.met 𝓤 H 𝓜 𝓖 𝓡)))

@@ -24,7 +24,9 @@ abbrev μ-loop : tie.MeasureT-loop
 μ-loop year bodies n out₀ i₀ out i = n - i
 
 loop-holds : tie.Need-loop-holds Inv-loop μ-loop
-loop-holds c = let s = c .before .before in (omega arith, refl, holds-none (s .args .year) (now (s .args .bodies)) (s .args .n) (s .pre .1) (now (s .args .out)))
+loop-holds c =
+    let s = c .before .before in
+    (omega arith, refl, holds-none (s .args .year) (now (s .args .bodies)) (s .args .n) (s .pre .1) (now (s .args .out)))
 
 instant-in-requires : tie.Need-instant-in-requires Inv-loop μ-loop
 instant-in-requires c κs = let p = c .before .before .before .before .pre in omega arith
@@ -74,7 +76,8 @@ loop-again c =
     let bodies = now (s .args .bodies) in
     let n = s .args .n in
     let i = l .loop .i in
-    let entry = put .put-entry .ensures ∙ entry-is y bodies n (s .pre .1) i _ _ (test .loop-test .taken) (instant .instant-in .ensures) (offset .body-start .ensures) in (
+    let is = entry-is y bodies n (s .pre .1) i _ _ (test .loop-test .taken) (instant .instant-in .ensures) (offset .body-start .ensures) in
+    let entry = put .put-entry .ensures ∙ is in (
       omega arith,
       c .before .out .given .1 ∙ l .loop .inv .1,
       holds-more y bodies n (s .pre .1) (now (s .args .out)) i (l .loop .out) _ (s .pre .2) (test .loop-test .taken) (l .loop .inv .2) entry,

@@ -23,7 +23,8 @@ returns-2 c =
     let count = year .before in
     let none = count .before in
     let told = none .before in
-    header-told (now (told .before .before .args .book)) _ _ _ _ (told .header-refusal .ensures) (none .if1 .left) (count .cycles .ensures) (year .year .ensures)
+    header-told (now (told .before .before .args .book)) _ _ _ _ (told .header-refusal .ensures) (none .if1 .left)
+    (count .cycles .ensures) (year .year .ensures)
 
 pub pcd-book-header-spec : {M : Type 1} → statement M
 pcd-book-header-spec =
