@@ -72,7 +72,9 @@ fn spoil(r: &mut Random, mut handed: Handed) -> Handed {
     let slots = handed.area.len() / FRAME;
     let kind = if slots == MOST { 0 } else { r.below(3) };
     if kind != 1 {
-        let length = [0, 1, FRAME - 1, slots * FRAME + 1, (MOST + 1) * FRAME][r.below(if r.one_in(20) { 5 } else { 4 })];
+        // One slot too many is a megabyte, so it comes seldom.
+        let lengths = if r.one_in(20) { 5 } else { 4 };
+        let length = [0, 1, FRAME - 1, slots * FRAME + 1, (MOST + 1) * FRAME][r.below(lengths)];
         handed.area.resize(length, 7);
     }
     if kind != 0 {
