@@ -9,7 +9,7 @@ ghost use Rattle.vcdu_header.specs.Steps.{Symbol};
 use crate::tables;
 
 // The wrong symbols, each what is to be added at its place; the places above the ten are the virtual fill.
-pub fn located(syndrome: u16) -> u64
+pub(crate) fn located(syndrome: u16) -> u64
     ensures { λ r. ⌜ r ≡ located syndrome ⌝ }
 {
     let v = syndrome as u64;

@@ -11,7 +11,7 @@ use crate::tables;
 use base::wide;
 
 // The ten symbols of a header.
-pub fn pack(header: &[u8]) -> u64
+pub(crate) fn pack(header: &[u8]) -> u64
     requires { ⌜ length (now header) ≡ 8 ⌝ }
     ensures { λ r. ⌜ symbolsOf 10 r ≡ symbols (now (header .entry)) ⌝ }
 {
@@ -26,7 +26,7 @@ fn join(a: u8, b: u8, c: u8, d: u8, e: u8) -> u64
 }
 
 // Puts the last ten symbols of a number into a header; the counter stays.
-pub fn put(header: &mut [u8], word: u64)
+pub(crate) fn put(header: &mut [u8], word: u64)
     requires { ⌜ length (now header) ≡ 8 ⌝ }
     ensures { λ _. ⌜ now (header .exit) ≡ placed (symbolsOf 10 word) (now (header .entry)) ⌝ }
 {
@@ -38,7 +38,7 @@ pub fn put(header: &mut [u8], word: u64)
 }
 
 // The values at the four roots, four bits each; 0 exactly for a code word.
-pub fn syndrome(word: u64) -> u16
+pub(crate) fn syndrome(word: u64) -> u16
     ensures { λ r. ⌜ r ≡ combined syndromes (symbolsOf 10 word) ⌝ }
 {
     let table = &tables::SYNDROMES;
@@ -46,7 +46,7 @@ pub fn syndrome(word: u64) -> u16
 }
 
 // The check symbols of the first six symbols, four bits each.
-pub fn check_symbols(word: u64) -> u16
+pub(crate) fn check_symbols(word: u64) -> u16
     ensures { λ r. ⌜ r ≡ combined checks (symbolsOf 10 word) ⌝ }
 {
     let table = &tables::CHECKS;
@@ -69,7 +69,7 @@ fn combine(table: &[u16; 160], word: u64) -> u16
 }
 
 // How many of ten symbols are not 0.
-pub fn weigh(word: u64) -> u64
+pub(crate) fn weigh(word: u64) -> u64
     ensures { λ r. ⌜ r ≡ weight (symbolsOf 10 word) ⌝ }
 {
     let mut count: u64 = 0;
