@@ -1,9 +1,13 @@
--- A vote by tests that are joined without branches: the eight ways of three tests are gone through once. Assumes nothing.
-use mathlib.Core.Path.{_≡_, refl, sym}
+-- A vote by tests that are joined without branches, and where the two votes agree. Assumes nothing.
+use mathlib.Core.Path.{_≡_, refl, sym, _∙_}
 use mathlib.Core.Bool.{Bool, true, false, cond, not, _&&_, _||_, true≢false}
 use Prim.Native.Nat.{ℕ, _+_, _*_}
+use lib.Dec.{eqb}
 use Rattle.base.specs.Lists.{one}
 use Rattle.labelling.specs.declared.Word.the-variants.{Voted, Erased}
+use Rattle.labelling.specs.Words.{byteVote}
+use Rattle.labelling.specs.Votes.{bitVote, ruleVote}
+use Rattle.labelling.proofs.Votes.{majority, same-word}
 use Rattle.plain_steps.specs.Shapes.{weakFrom}
 
 -- the number of the weak copy, added up
@@ -14,13 +18,25 @@ numbered false true bc = refl
 numbered false false true = refl
 numbered false false false = refl
 
--- p tells that the first copy is the word, q that the second is
-pub voted-word : (a b : ℕ) (p q : Bool) → (p || q) ≡ true → Voted (cond p a b) ≡ cond p (Voted a) (cond q (Voted b) Erased)
-voted-word a b true q h = refl
-voted-word a b false true h = refl
-voted-word a b false false h = absurd (true≢false (sym h))
+-- where two copies are equal the vote by bits is the vote by bytes
+pub agreed : (a b c : ℕ) → (eqb a b || eqb a c || eqb b c) ≡ true → bitVote a b c ≡ byteVote a b c
+unfolding byteVote ruleVote
+agreed a b c h = go (eqb a b || eqb a c) (eqb b c) refl refl h
+  where
+    decided : (w : ℕ) → byteVote a b c ≡ Voted w → bitVote a b c ≡ byteVote a b c
+    decided w e = same-word (majority 2) a b c w e ∙ sym e
 
-pub erased-word : (a b : ℕ) (p q : Bool) → (p || q) ≡ false → Erased ≡ cond p (Voted a) (cond q (Voted b) Erased)
-erased-word a b true q h = absurd (true≢false h)
-erased-word a b false true h = absurd (true≢false h)
-erased-word a b false false h = refl
+    go : (p q : Bool) → (eqb a b || eqb a c) ≡ p → eqb b c ≡ q → (p || q) ≡ true → bitVote a b c ≡ byteVote a b c
+    go true q e f h = decided a (rw e)
+    go false true e f h = decided b (rw (e, f))
+    go false false e f h = absurd (true≢false (sym h))
+
+-- where none are, it gives no word
+pub split : (a b c : ℕ) → (eqb a b || eqb a c || eqb b c) ≡ false → Erased ≡ byteVote a b c
+unfolding byteVote
+split a b c h = go (eqb a b || eqb a c) (eqb b c) h
+  where
+    go : (p q : Bool) → (p || q) ≡ false → Erased ≡ cond p (Voted a) (cond q (Voted b) Erased)
+    go true q h = absurd (true≢false h)
+    go false true h = absurd (true≢false h)
+    go false false h = refl

@@ -1,6 +1,5 @@
 // The two votes on the three copies of a group, and the copy that they find weak.
 ghost use mathlib.Core.Path.{_≡_};
-ghost use mathlib.Core.Bool.{cond};
 ghost use Prim.Native.Nat.{_≤_};
 ghost use Rattle.base.specs.Lists.{one};
 ghost use Rattle.labelling.specs.Words.{byteVote};
@@ -17,28 +16,6 @@ pub struct Voted {
     pub weak: u8,
 }
 
-// The byte that at least two copies have, or an erasure where all three differ; and the weak copy. Which copies agree cannot be foreseen on a
-// reel with a bad head, so that only an erasure is told by a branch.
-pub fn vote(a: u8, b: u8, c: u8) -> Voted
-    ensures { λ r. ⌜ VotePromise byteVote a b c r ⌝ }
-{
-    let ab = a == b;
-    let ac = a == c;
-    let bc = b == c;
-    let weak = weak_number(ab, ac, bc);
-    let value = pick(ab | ac, a, b);
-    if ab | ac | bc {
-        return Voted {
-            word: Word::Voted(value),
-            weak: weak,
-        };
-    }
-    Voted {
-        word: Word::Erased,
-        weak: weak,
-    }
-}
-
 // Each bit is the one that at least two copies have; and the weak copy, of which three different copies name none.
 pub fn vote_bits(a: u8, b: u8, c: u8) -> Voted
     ensures { λ r. ⌜ BitVotePromise a b c r ⌝ }
@@ -47,6 +24,21 @@ pub fn vote_bits(a: u8, b: u8, c: u8) -> Voted
     Voted {
         word: Word::Voted((a & b) | (a & c) | (b & c)),
         weak: weak,
+    }
+}
+
+// The byte that at least two copies have, or an erasure where all three differ; and the weak copy. Two equal copies decide the vote by bits
+// too, and its masks need no branch: which copies agree cannot be foreseen on a reel with a bad head.
+pub fn vote(a: u8, b: u8, c: u8) -> Voted
+    ensures { λ r. ⌜ VotePromise byteVote a b c r ⌝ }
+{
+    let by_bits = vote_bits(a, b, c);
+    if (a == b) | (a == c) | (b == c) {
+        return by_bits;
+    }
+    Voted {
+        word: Word::Erased,
+        weak: by_bits.weak,
     }
 }
 
@@ -74,13 +66,4 @@ fn bit(b: bool) -> u8
         return 1;
     }
     0
-}
-
-fn pick(first: bool, a: u8, b: u8) -> u8
-    ensures { λ r. ⌜ r ≡ cond first a b ⌝ }
-{
-    if first {
-        return a;
-    }
-    b
 }

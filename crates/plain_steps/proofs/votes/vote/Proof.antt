@@ -1,39 +1,25 @@
--- `plain_steps::votes::vote` meets its contract: the tests decide the value, and the number of the weak copy. Assumes nothing.
-use mathlib.Core.Path.{_∙_, ap}
-use mathlib.Core.Bool.{_||_}
-use Prim.Native.Nat.{ℕ}
-use lib.Dec.{eqb}
-use Rattle.labelling.specs.declared.Word.the-variants.{Voted}
-use Rattle.labelling.specs.Words.{byteVote, weakCopy}
-use Rattle.plain_steps.proofs.Voting.{voted-word, erased-word}
+-- `plain_steps::votes::vote` meets its contract: where two copies are equal the vote by bits gives its word, else there is none. Assumes nothing.
+use mathlib.Core.Path.{_∙_}
+use Rattle.plain_steps.proofs.Voting.{agreed, split}
 use borrow.Author.Needs.{needs}
 use Rattle.plain_steps.proofs.votes.vote.Statement.{statement}
 use Rattle.plain_steps.proofs.votes.vote.Tie as tie
 
-weak-number-requires : tie.Need-weak-number-requires
-weak-number-requires c κs = search needs
-
-pick-requires : tie.Need-pick-requires
-pick-requires c κs = search needs
+vote-bits-requires : tie.Need-vote-bits-requires
+vote-bits-requires c κs = search needs
 
 returns : tie.Need-returns
-unfolding byteVote weakCopy
 returns c =
-    let numbered = c .before .before in
-    let a = numbered .before .args in
-    let first = eqb (a .a) (a .b) || eqb (a .a) (a .c) in
-    record {
-      word-is = ap (λ (v : ℕ). Voted v) (c .before .pick .ensures) ∙ voted-word (a .a) (a .b) first (eqb (a .b) (a .c)) (c .if1 .taken);
-      weak-is = numbered .weak-number .ensures;
-    }
+    let voted = c .before in
+    let a = voted .before .args in
+    let by-bits = voted .vote-bits .ensures .answer-is in
+    record { word-is = by-bits .word-is ∙ agreed (a .a) (a .b) (a .c) (c .if1 .taken); weak-is = by-bits .weak-is }
 
 returns-2 : tie.Need-returns-2
-unfolding byteVote weakCopy
 returns-2 c =
-    let numbered = c .before .before in
-    let a = numbered .before .args in
-    let first = eqb (a .a) (a .b) || eqb (a .a) (a .c) in
-    record { word-is = erased-word (a .a) (a .b) first (eqb (a .b) (a .c)) (c .if1 .left); weak-is = numbered .weak-number .ensures }
+    let voted = c .before in
+    let a = voted .before .args in
+    record { word-is = split (a .a) (a .b) (a .c) (c .if1 .left); weak-is = voted .vote-bits .ensures .answer-is .weak-is }
 
 pub vote-spec : {M : Type 1} → statement M
-vote-spec = tie.close (tie.spec weak-number-requires pick-requires returns returns-2)
+vote-spec = tie.close (tie.spec vote-bits-requires returns returns-2)
