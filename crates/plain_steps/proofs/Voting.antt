@@ -1,7 +1,8 @@
 -- A vote by tests that are joined without branches, and where the two votes agree. Assumes nothing.
 use mathlib.Core.Path.{_≡_, refl, sym, _∙_}
 use mathlib.Core.Bool.{Bool, true, false, cond, not, _&&_, _||_, true≢false}
-use Prim.Native.Nat.{ℕ, _+_, _*_}
+use Prim.Native.Nat.{ℕ, _+_, _*_, _≤_}
+use native.Mathlib.Omega.{arith}
 use lib.Dec.{eqb}
 use Rattle.base.specs.Lists.{one}
 use Rattle.labelling.specs.declared.Word.the-variants.{Voted, Erased}
@@ -17,6 +18,28 @@ numbered true false bc = refl
 numbered false true bc = refl
 numbered false false true = refl
 numbered false false false = refl
+
+-- at most 3, so that one more fits a byte
+pub numbered-few : (ab ac bc : Bool) → weakFrom ab ac bc ≤ 3
+numbered-few true true bc = omega arith
+numbered-few true false bc = omega arith
+numbered-few false true bc = omega arith
+numbered-few false false true = omega arith
+numbered-few false false false = omega arith
+
+-- two copies are equal exactly where one is weak or the first two are equal
+pub any-equal : (ab ac bc : Bool) → (weakFrom ab ac bc + one ab ≡ 0 → ⊥) → (ab || ac || bc) ≡ true
+any-equal true ac bc h = refl
+any-equal false true bc h = refl
+any-equal false false true h = refl
+any-equal false false false h = absurd (h refl)
+
+pub none-equal : (ab ac bc : Bool) → weakFrom ab ac bc + one ab ≡ 0 → (ab || ac || bc) ≡ false
+none-equal true true bc h = absurd (omega arith)
+none-equal true false bc h = absurd (omega arith)
+none-equal false true bc h = absurd (omega arith)
+none-equal false false true h = absurd (omega arith)
+none-equal false false false h = refl
 
 -- where two copies are equal the vote by bits is the vote by bytes
 pub agreed : (a b c : ℕ) → (eqb a b || eqb a c || eqb b c) ≡ true → bitVote a b c ≡ byteVote a b c

@@ -28,12 +28,12 @@ pub fn vote_bits(a: u8, b: u8, c: u8) -> Voted
 }
 
 // The byte that at least two copies have, or an erasure where all three differ; and the weak copy. Two equal copies decide the vote by bits
-// too, and its masks need no branch: which copies agree cannot be foreseen on a reel with a bad head.
+// too. Which copies agree cannot be foreseen on a reel with a bad head, so one sum tells whether any do: a test of three would be three branches.
 pub fn vote(a: u8, b: u8, c: u8) -> Voted
     ensures { λ r. ⌜ VotePromise byteVote a b c r ⌝ }
 {
     let by_bits = vote_bits(a, b, c);
-    if (a == b) | (a == c) | (b == c) {
+    if by_bits.weak + bit(a == b) != 0 {
         return by_bits;
     }
     Voted {
