@@ -1,3 +1,4 @@
 pub mod Halving
 pub mod WholeReading
 pub mod Promises
+pub mod InBytes

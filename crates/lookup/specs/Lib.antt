@@ -2,3 +2,4 @@ pub mod Halving
 pub mod WholeReading
 pub mod Answer
 pub mod Promise
+pub mod InBytes

@@ -1,4 +1,7 @@
-// Finds the last recorded instant at or before a wanted one, by halving (paper 02, request 1).
+// Finds the last recorded instant at or before a wanted one, by halving (paper 02, request 1): among numbers, and among bytes.
+mod in_bytes;
+
+pub use in_bytes::find_in_bytes;
 ghost use mathlib.Core.Path.{_≡_};
 ghost use Prim.Native.Nat.{_+_, _≤_};
 ghost use lib.ListN.{length};

@@ -1,0 +1,28 @@
+-- Instants that come as bytes (02, request 14), and what `find_in_bytes` promises. Definitions only.
+use mathlib.Core.Path.{_≡_}
+use mathlib.Core.Bool.{not}
+use mathlib.Core.List.{List, [], _∷_, map}
+use Prim.Native.Nat.{ℕ, _%_}
+use lib.Dec.{eqb}
+use lib.ListN.{length}
+use Rattle.base.specs.Numbers.{bigEndian}
+use Rattle.base.specs.Refusal.{Line, _when_, answered}
+use Rattle.base.specs.Rows.{rows}
+use Rattle.lookup.specs.declared.Found.{Found}
+use Rattle.lookup.specs.declared.Found.the-variants.{Refused}
+use Rattle.lookup.specs.Promise.{FindPromise}
+
+-- the instants that the bytes are: eight bytes each, first byte highest
+unfoldable pub instantsIn : List ℕ → List ℕ
+instantsIn bytes = map bigEndian (rows 8 bytes)
+
+-- any other length is refused before the instants are looked at
+abbrev pub lengthLines : List ℕ → List Line
+lengthLines bytes = 2 when not (eqb (length bytes % 8) 0) ∷ []
+
+-- `find_in_bytes` of the wanted instant among these bytes answers r
+pub record FindInBytesPromise (bytes : List ℕ) (wanted : ℕ) (r : Found) : Type 0 where
+  -- an answer of which all that `find` promises on the instants holds
+  pub found : Found
+  pub promised : FindPromise (instantsIn bytes) wanted found
+  pub answer : r ≡ answered Refused (lengthLines bytes) found

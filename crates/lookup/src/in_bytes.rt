@@ -1,0 +1,81 @@
+// Finds an instant among instants that come as bytes, eight each, the first byte highest (paper 02, request 14). There is no room to make a list
+// of numbers of them, so each instant is read where it stands; the rule is that of `find`.
+ghost use mathlib.Core.Path.{_≡_};
+ghost use Prim.Native.Nat.{_+_, _*_, _%_, _^_, _≤_};
+ghost use lib.ListN.{length, getD};
+ghost use Rattle.lookup.specs.Halving.{Search};
+ghost use Rattle.lookup.specs.InBytes.{instantsIn, FindInBytesPromise};
+use crate::End;
+use crate::Found;
+use crate::MOST_INSTANTS;
+use base::refusal::LIST_TOO_LONG;
+use base::refusal::WRONG_LENGTH;
+use base::wide;
+
+// The bytes of an instant.
+const WIDTH: usize = 8;
+
+// The answer of `find` on the instants that the bytes are. Refused 2: no whole number of instants. Refused 12: more than 100,000.
+pub fn find_in_bytes(instants: &[u8], wanted: u64) -> Found
+    ensures { λ r. ⌜ FindInBytesPromise (now (instants .entry)) wanted r ⌝ }
+{
+    if instants.len() % WIDTH != 0 {
+        return Found::Refused(WRONG_LENGTH);
+    }
+    if MOST_INSTANTS < instants.len() / WIDTH {
+        return Found::Refused(LIST_TOO_LONG);
+    }
+    let end = halve(instants, wanted);
+    crate::answer(end.low, end.looks)
+}
+
+fn halve(instants: &[u8], wanted: u64) -> End
+    requires { ⌜ (length (now instants) % 8 ≡ 0) × (length (now instants) ≤ 800000) ⌝ }
+    ensures { λ r. ⌜ Search (instantsIn (now (instants .entry))) wanted (r .low) (r .looks) ⌝ }
+{
+    let mut low = 0;
+    let mut high = instants.len() / WIDTH;
+    let mut looks = 0;
+    while low < high {
+        let half = crate::middle(low, high);
+        if instant_at(instants, half) <= wanted {
+            low = half + 1;
+        } else {
+            high = half;
+        }
+        looks += 1;
+    }
+    End {
+        low: low,
+        looks: looks,
+    }
+}
+
+fn instant_at(instants: &[u8], place: usize) -> u64
+    requires { ⌜ (length (now instants) % 8 ≡ 0) × (8 * place + 8 ≤ length (now instants)) ⌝ }
+    ensures { λ r. ⌜ r ≡ getD (instantsIn (now (instants .entry))) place 0 ⌝ }
+{
+    let at = WIDTH * place;
+    number(
+        instants[at],
+        instants[at + 1],
+        instants[at + 2],
+        instants[at + 3],
+        instants[at + 4],
+        instants[at + 5],
+        instants[at + 6],
+        instants[at + 7],
+    )
+}
+
+// The number with these digits to the base 256, the first one highest.
+fn number(b0: u8, b1: u8, b2: u8, b3: u8, b4: u8, b5: u8, b6: u8, b7: u8) -> u64
+    ensures { λ r. ⌜ r
+        ≡ b0 * 2 ^ 56 + b1 * 2 ^ 48 + b2 * 2 ^ 40 + b3 * 2 ^ 32 + b4 * 2 ^ 24 + b5 * 2 ^ 16 + b6 * 2 ^ 8 + b7 ⌝ }
+{
+    let high = wide(b0) * (1 << 56)
+        + wide(b1) * (1 << 48)
+        + wide(b2) * (1 << 40)
+        + wide(b3) * (1 << 32);
+    high + wide(b4) * (1 << 24) + wide(b5) * (1 << 16) + wide(b6) * (1 << 8) + wide(b7)
+}
