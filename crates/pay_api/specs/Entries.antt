@@ -2,7 +2,7 @@
 -- result. Definitions only.
 use mathlib.Core.Path.{_≡_}
 use mathlib.Core.List.{List, [], _∷_, _++_}
-use Prim.Native.Nat.{ℕ, _+_, _*_, _^_}
+use Prim.Native.Nat.{ℕ, _+_, _*_, _^_, _<_}
 use Rattle.base.specs.Refusal.{Line, answered, refusal}
 use Rattle.labelling.specs.declared.Word.{Word}
 use Rattle.labelling.specs.declared.Word.the-variants.{Voted, Erased}
@@ -13,7 +13,7 @@ use Rattle.float1750.specs.Double.{bitsOf}
 use Rattle.float1750.specs.Word.{value}
 use Rattle.lookup.specs.declared.Found.{Found}
 use Rattle.lookup.specs.declared.Found.the-variants.{At, Nothing, Refused}
-use Rattle.lookup.specs.Answer.{findLines}
+use Rattle.lookup.specs.Answer.{findLines, valuesOf}
 use Rattle.lookup.specs.InBytes.{instantsIn, lengthLines}
 use Rattle.lookup.specs.Promise.{FindPromise}
 use Rattle.pay_api.specs.Answer.{Answered}
@@ -49,4 +49,6 @@ pub record FindAnswer (bytes : List ℕ) (wanted r : ℕ) (old new : List ℕ) :
   -- an answer of which all that `find` promises on the instants holds
   pub found : Found
   pub promised : FindPromise (instantsIn bytes) wanted found
+  -- the looks keep to the lower half
+  pub lower-half : valuesOf found .looks < 2 ^ 32
   pub answers : Answers (lengthLines bytes ++ findLines (instantsIn bytes)) (foundResult found) r old new

@@ -14,7 +14,8 @@ pub extern "C" fn pcd_pay_vote_bytes(a: u8, b: u8, c: u8, answer: &mut [u8]) -> 
     ensures { λ r. ⌜ VoteAnswer (byteVote a b c) r (now (answer .entry)) (now (answer .exit)) ⌝ }
 {
     let voted = plain_steps::vote(a, b, c);
-    put_word(voted.word, answer)
+    let word = voted.word;
+    put_word(word, answer)
 }
 
 // Each bit is the one that at least two copies have.
@@ -23,7 +24,8 @@ pub extern "C" fn pcd_pay_vote_bits(a: u8, b: u8, c: u8, answer: &mut [u8]) -> u
     ensures { λ r. ⌜ VoteAnswer (bitVote a b c) r (now (answer .entry)) (now (answer .exit)) ⌝ }
 {
     let voted = plain_steps::vote_bits(a, b, c);
-    put_word(voted.word, answer)
+    let word = voted.word;
+    put_word(word, answer)
 }
 
 fn put_word(word: Word, answer: &mut [u8]) -> u8
