@@ -1,4 +1,4 @@
--- What the inner entries promise of an answer, said of its number and result, where the answer is known to be one of its cases; and that the lookup's
+-- What the inner entries promise of an answer, said of its number and result, which the code hands over as numbers; and that the lookup's
 -- two numbers fit the halves. Assumes nothing.
 use mathlib.Core.Path.{_≡_, refl, sym, ap, _∙_, subst}
 use mathlib.Core.Bool.{Bool, true, false, cond, not}
@@ -45,24 +45,22 @@ abbrev pub instantOr0 : TimeDecoded → ℕ
 instantOr0 (Time t) = t .instant
 instantOr0 (NoTime n) = 0
 
-pub instant-answer : {year r : ℕ} {bytes old new : List ℕ} {d a : TimeDecoded} → TimePromise year bytes d → d ≡ a
-    → Answered (timeRefused a) (instantOr0 a) r old new → InstantAnswer year bytes r old new
+pub instant-answer : {year number result r : ℕ} {bytes old new : List ℕ} {d : TimeDecoded} → TimePromise year bytes d → number ≡ timeRefused d
+    → result ≡ instantOr0 d → Answered number result r old new → InstantAnswer year bytes r old new
 unfolding timeDecoded
-instant-answer {year} {r} {bytes} p e =
-    let result = answered-of instantOr0 NoTime (timeLines year bytes) (Time (timeOf bytes)) in
-    said (ap timeRefused (sym e) ∙ p .refusal-is) (ap instantOr0 (sym e ∙ p .answer) ∙ result)
+instant-answer {year} {number} {result} {r} {bytes} p n e =
+    said (n ∙ p .refusal-is) (e ∙ ap instantOr0 (p .answer) ∙ answered-of instantOr0 NoTime (timeLines year bytes) (Time (timeOf bytes)))
 
 -- the bits, or 0
 abbrev pub bitsOr0 : NumberDecoded → ℕ
 bitsOr0 (Number x) = bitsOf x
 bitsOr0 (NoNumber n) = 0
 
-pub number-answer : {r : ℕ} {bytes old new : List ℕ} {d a : NumberDecoded} → NumberPromise bytes d → d ≡ a
-    → Answered (numberRefused a) (bitsOr0 a) r old new → NumberAnswer bytes r old new
+pub number-answer : {number result r : ℕ} {bytes old new : List ℕ} {d : NumberDecoded} → NumberPromise bytes d → number ≡ numberRefused d
+    → result ≡ bitsOr0 d → Answered number result r old new → NumberAnswer bytes r old new
 unfolding numberDecoded
-number-answer {r} {bytes} p e =
-    let result = answered-of bitsOr0 NoNumber (numberLines bytes) (Number (value bytes)) in
-    said (ap numberRefused (sym e) ∙ p .refusal-is) (ap bitsOr0 (sym e ∙ p .answer) ∙ result)
+number-answer {number} {result} {r} {bytes} p n e =
+    said (n ∙ p .refusal-is) (e ∙ ap bitsOr0 (p .answer) ∙ answered-of bitsOr0 NoNumber (numberLines bytes) (Number (value bytes)))
 
 -- what a word reads as is no NaN, so its bits can be asked for
 pub has-bits : {bytes : List ℕ} {d : NumberDecoded} {x : Float} → NumberPromise bytes d → d ≡ Number x → T (not (isNan x))
@@ -158,11 +156,11 @@ module _ {bytes : List ℕ} {wanted : ℕ} {f : Found} (p : FindInBytesPromise b
   lower true h e = rw e (omega arith)
   lower false h e = omega (arith, p .promised .few-looks 17 (omega (arith, ltb-false 100000 (length xs) h)))
 
-  pub find-answer : {a : Found} {r : ℕ} {old new : List ℕ} → f ≡ a → Answered (refusedAs a) (foundResult a) r old new
-      → FindAnswer bytes wanted r old new
-  find-answer e w = record {
+  pub find-answer : {number result r : ℕ} {old new : List ℕ} → number ≡ refusedAs f → result ≡ foundResult f
+      → Answered number result r old new → FindAnswer bytes wanted r old new
+  find-answer n e w = record {
     found = p .found;
     promised = p .promised;
     lower-half = lower (ltb 100000 (length xs)) refl (p .promised .answer);
-    answers = said (ap refusedAs (sym e) ∙ number-is) (ap foundResult (sym e) ∙ result-is) w;
+    answers = said (n ∙ number-is) (e ∙ result-is) w;
   }

@@ -6,7 +6,7 @@ use Rattle.pay_api.proofs.answers.put.Statement.{statement}
 use Rattle.pay_api.proofs.answers.put.Tie as tie
 
 returns : tie.Need-returns
-returns c = wrong-length _ _ _ (c .if1 .taken)
+returns c = wrong-length _ _ _ (λ whole. c .if1 .taken whole)
 
 sub-write : tie.Need-sub-write
 sub-write c = search needs

@@ -1,6 +1,9 @@
 -- `pay_api::codecs::pcd_pay_instant` meets its contract: each arm is a case of the answer. Assumes nothing.
+use mathlib.Core.Path.{ap}
+use native.Mathlib.Omega.{arith}
 use borrow.Author.Needs.{needs}
-use Rattle.pay_api.proofs.Results.{instant-answer}
+use Rattle.time_code.specs.Codec.{numberOf as timeRefused}
+use Rattle.pay_api.proofs.Results.{instantOr0, instant-answer}
 use Rattle.pay_api.proofs.codecs.pcd_pay_instant.Statement.{statement}
 use Rattle.pay_api.proofs.codecs.pcd_pay_instant.Tie as tie
 
@@ -21,7 +24,8 @@ returns c =
     let written = c .before .before in
     let arm = written .before .before .before in
     let called = arm .before .before in
-    instant-answer (called .decode .ensures) (arm .d .given .1) (written .put .ensures)
+    let e = arm .d .given .1 in
+    instant-answer (called .decode .ensures) (omega (arith, ap timeRefused e)) (omega (arith, ap instantOr0 e)) (written .put .ensures)
 
 enum-known-d-2 : tie.Need-enum-known-d-2
 enum-known-d-2 c = search needs
@@ -37,7 +41,8 @@ returns-2 c =
     let written = c .before .before in
     let arm = written .before .before .before in
     let called = arm .before .before in
-    instant-answer (called .decode .ensures) (arm .d2 .given .1) (written .put2 .ensures)
+    let e = arm .d2 .given .1 in
+    instant-answer (called .decode .ensures) (omega (arith, ap timeRefused e)) (omega (arith, ap instantOr0 e)) (written .put2 .ensures)
 
 pub pcd-pay-instant-spec : {M : Type 1} → statement M
 pcd-pay-instant-spec =

@@ -1,6 +1,9 @@
 -- `pay_api::codecs::pcd_pay_number` meets its contract: each arm is a case of the answer. Assumes nothing.
+use mathlib.Core.Path.{ap}
+use native.Mathlib.Omega.{arith}
 use borrow.Author.Needs.{needs}
-use Rattle.pay_api.proofs.Results.{number-answer, has-bits}
+use Rattle.float1750.specs.Codec.{numberOf as numberRefused}
+use Rattle.pay_api.proofs.Results.{bitsOr0, number-answer, has-bits}
 use Rattle.pay_api.proofs.codecs.pcd_pay_number.Statement.{statement}
 use Rattle.pay_api.proofs.codecs.pcd_pay_number.Tie as tie
 
@@ -26,7 +29,8 @@ returns c =
     let written = c .before .before in
     let arm = written .before .before .before in
     let called = arm .before .before in
-    number-answer (called .decode .ensures) (arm .d .given .1) (written .put .ensures)
+    let e = arm .d .given .1 in
+    number-answer (called .decode .ensures) (omega (arith, ap numberRefused e)) (omega (arith, ap bitsOr0 e)) (written .put .ensures)
 
 enum-known-d-2 : tie.Need-enum-known-d-2
 enum-known-d-2 c = search needs
@@ -42,7 +46,8 @@ returns-2 c =
     let written = c .before .before in
     let arm = written .before .before .before in
     let called = arm .before .before in
-    number-answer (called .decode .ensures) (arm .d2 .given .1) (written .put2 .ensures)
+    let e = arm .d2 .given .1 in
+    number-answer (called .decode .ensures) (omega (arith, ap numberRefused e)) (omega (arith, ap bitsOr0 e)) (written .put2 .ensures)
 
 pub pcd-pay-number-spec : {M : Type 1} → statement M
 pcd-pay-number-spec =

@@ -1,7 +1,9 @@
 -- `pay_api::finding::pcd_pay_find` meets its contract: each arm is a case of the answer, and its two numbers fit the halves. Assumes nothing.
+use mathlib.Core.Path.{ap}
 use native.Mathlib.Omega.{arith}
 use borrow.Author.Needs.{needs}
-use Rattle.pay_api.proofs.Results.{find-answer, halves}
+use Rattle.pay_api.specs.Entries.{foundResult}
+use Rattle.pay_api.proofs.Results.{refusedAs, find-answer, halves}
 use Rattle.pay_api.proofs.finding.pcd_pay_find.Statement.{statement}
 use Rattle.pay_api.proofs.finding.pcd_pay_find.Tie as tie
 
@@ -40,7 +42,8 @@ returns c =
     let written = c .before .before in
     let arm = written .before .before .before in
     let called = arm .before .before in
-    find-answer (called .find-in-bytes .ensures) (arm .place .given .1) (written .put .ensures)
+    let e = arm .place .given .1 in
+    find-answer (called .find-in-bytes .ensures) (omega (arith, ap refusedAs e)) (omega (arith, ap foundResult e)) (written .put .ensures)
 
 enum-known-looks : tie.Need-enum-known-looks
 enum-known-looks c = search needs
@@ -56,7 +59,8 @@ returns-2 c =
     let written = c .before .before in
     let arm = written .before .before .before in
     let called = arm .before .before in
-    find-answer (called .find-in-bytes .ensures) (arm .looks .given .1) (written .put2 .ensures)
+    let e = arm .looks .given .1 in
+    find-answer (called .find-in-bytes .ensures) (omega (arith, ap refusedAs e)) (omega (arith, ap foundResult e)) (written .put2 .ensures)
 
 enum-known-number : tie.Need-enum-known-number
 enum-known-number c = search needs
@@ -72,7 +76,8 @@ returns-3 c =
     let written = c .before .before in
     let arm = written .before .before .before in
     let called = arm .before .before in
-    find-answer (called .find-in-bytes .ensures) (arm .number .given .1) (written .put3 .ensures)
+    let e = arm .number .given .1 in
+    find-answer (called .find-in-bytes .ensures) (omega (arith, ap refusedAs e)) (omega (arith, ap foundResult e)) (written .put3 .ensures)
 
 pub pcd-pay-find-spec : {M : Type 1} → statement M
 pcd-pay-find-spec =

@@ -1,5 +1,6 @@
 -- `pay_api::voting::put_word` meets its contract: each arm is a case of the word. Assumes nothing.
-use mathlib.Core.Path.{refl, sym, ap}
+use mathlib.Core.Path.{ap}
+use native.Mathlib.Omega.{arith}
 use borrow.Author.Needs.{needs}
 use Rattle.pay_api.specs.Entries.{wordResult}
 use Rattle.pay_api.proofs.Results.{said}
@@ -22,7 +23,7 @@ returns : tie.Need-returns
 returns c =
     let written = c .before .before in
     let arm = written .before .before .before in
-    said refl (ap wordResult (sym (arm .word .given .1))) (written .put .ensures)
+    said (omega arith) (omega (arith, ap wordResult (arm .word .given .1))) (written .put .ensures)
 
 enum-told : tie.Need-enum-told
 enum-told c = search needs
@@ -37,7 +38,7 @@ returns-2 : tie.Need-returns-2
 returns-2 c =
     let written = c .before .before in
     let arm = written .before .before in
-    said refl (ap wordResult (sym (arm .enum-told .given .1))) (written .put2 .ensures)
+    said (omega arith) (omega (arith, ap wordResult (arm .enum-told .given .1))) (written .put2 .ensures)
 
 pub put-word-spec : {M : Type 1} → statement M
 put-word-spec =
