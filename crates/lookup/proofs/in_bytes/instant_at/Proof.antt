@@ -1,6 +1,6 @@
 -- `lookup::in_bytes::instant_at` meets its contract: the sum of the eight bytes is the instant. Assumes nothing.
+use mathlib.Core.Path.{sym, _∙_}
 use native.Mathlib.Omega.{arith}
-use denote.Ref.{now}
 use borrow.Author.Needs.{needs}
 use Rattle.lookup.proofs.InBytes.{instant-read}
 use Rattle.lookup.proofs.in_bytes.instant_at.Statement.{statement}
@@ -58,10 +58,7 @@ number-requires : tie.Need-number-requires
 number-requires c κs = search needs
 
 returns : tie.Need-returns
-returns c =
-    let read = c .before .before .before .before in
-    let start = read .before .before .before .before .before .before in
-    omega (arith, c .number .ensures, instant-read (now (start .args .instants)) (start .pre .0) (start .args .place) (start .pre .1))
+returns c = c .number .ensures ∙ sym (instant-read _ (omega arith) _ (omega arith))
 
 pub instant-at-spec : {M : Type 1} → statement M
 instant-at-spec =

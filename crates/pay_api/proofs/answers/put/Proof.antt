@@ -1,4 +1,5 @@
 -- `pay_api::answers::put` meets its contract: nothing is stored, or the two numbers one behind the other. Assumes nothing.
+use native.Mathlib.Omega.{arith}
 use denote.Ref.{now}
 use borrow.Author.Needs.{needs}
 use Rattle.pay_api.proofs.Stores.{wrong-length, put}
@@ -6,7 +7,7 @@ use Rattle.pay_api.proofs.answers.put.Statement.{statement}
 use Rattle.pay_api.proofs.answers.put.Tie as tie
 
 returns : tie.Need-returns
-returns c = wrong-length _ _ _ (λ whole. c .if1 .taken whole)
+returns c = wrong-length _ _ _ (λ whole. omega arith)
 
 sub-write : tie.Need-sub-write
 sub-write c = search needs
@@ -41,7 +42,7 @@ returns-2 c =
     let first = second .before .before .before .before in
     let tested = first .before .before in
     let a = tested .before .before .args in
-    put (a .number) (a .result) (now (a .answer)) _ _ (tested .if1 .left) (first .write .ensures) (second .write2 .ensures)
+    put (a .number) (a .result) (now (a .answer)) _ _ (omega arith) (first .write .ensures) (second .write2 .ensures)
 
 pub put-spec : {M : Type 1} → statement M
 put-spec =
