@@ -1,5 +1,5 @@
 #!/usr/bin/env python3
-"""Sees that include/pcd.h declares exactly the entries that crates/bridge exports, with their types, the refusal numbers of crates/base, and a place for
+"""Sees that include/pcd.h declares exactly the entries that the crates export, with their types, the refusal numbers of crates/base, and a place for
 each number of a tally.
 
 Run from the repository's root: python3 tests/header.py. The prototype of each entry is made from its signature in Rattle and compared with the
@@ -36,7 +36,7 @@ def parameter(name, kind):
 
 def exported():
     """Each exported entry's prototype, from its signature."""
-    text = "".join(open(path, encoding="utf-8").read() for path in sorted(glob.glob("crates/bridge/src/*.rt")))
+    text = "".join(open(path, encoding="utf-8").read() for path in sorted(glob.glob("crates/*/src/*.rt")))
     entries = {}
     for name, given, answer in re.findall(r'#\[no_mangle\]\npub extern "C" fn (\w+)\((.*?)\)(?: -> (\w+))?\n', text, re.S):
         parameters = [p.strip().split(": ", 1) for p in re.split(r",\s*(?=\w+: |$)", given.strip()) if p.strip()]
@@ -79,7 +79,7 @@ def main():
         wrong.append("the header names %d places for the %s numbers of a tally" % (len(places()), constants.get("PCD_NUMBERS")))
     if wrong or not numbers:
         sys.exit("include/pcd.h differs from the library:\n" + "\n".join(wrong))
-    print("include/pcd.h declares the %d entries of the library and %d refusals" % (len(wanted), len(numbers)))
+    print("include/pcd.h declares the %d entries that the crates export and %d refusals" % (len(wanted), len(numbers)))
 
 
 main()
