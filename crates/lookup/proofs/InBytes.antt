@@ -16,7 +16,7 @@ use Rattle.lookup.specs.declared.Found.{Found}
 use Rattle.lookup.specs.declared.Found.the-variants.{Refused}
 use Rattle.lookup.specs.Answer.{given}
 use Rattle.lookup.specs.Halving.{Search}
-use Rattle.lookup.specs.InBytes.{instantsIn, FindInBytesPromise}
+use Rattle.lookup.specs.InBytes.{instantsIn, FourRead, FindInBytesPromise}
 use Rattle.lookup.specs.Promise.{FindPromise}
 use Rattle.lookup.proofs.Halving.{outcome}
 use Rattle.lookup.proofs.Promises.{refused-12, accepted, answerable}
@@ -50,35 +50,27 @@ module _ (bytes : List ℕ) (whole : length bytes % 8 ≡ 0) where
   instants-length = map-length (rows 8 bytes) ∙ rows-length 8 bytes (length bytes / 8) (lit< tt) eights
 
   module _ (k : ℕ) (inside : 8 * k + 8 ≤ length bytes) where
-    byte-of : (i : ℕ) → i < 8 → getD (row 8 bytes k) i 0 ≡ getD bytes (8 * k + i) 0
+    byte-of : (i j : ℕ) → i < 8 → j ≡ 8 * k + i → getD (row 8 bytes k) i 0 ≡ getD bytes j 0
     unfolding row
-    byte-of i h = rw (getD-take, getD-drop)
+    byte-of i j h e = rw (e, getD-take, getD-drop)
 
     instant-is : getD (instantsIn bytes) k 0 ≡ bigEndian (row 8 bytes k)
     unfolding instantsIn
     instant-is = map-at (rows 8 bytes) k ∙ ap bigEndian (rows-at 8 bytes (length bytes / 8) (lit< tt) eights k (omega arith))
 
-    -- the sum of the eight bytes from 8 k on is instant k
-    pub instant-read : getD (instantsIn bytes) k 0
-        ≡ getD bytes (8 * k) 0 * 2 ^ 56 + getD bytes (8 * k + 1) 0 * 2 ^ 48 + getD bytes (8 * k + 2) 0 * 2 ^ 40
-        + getD bytes (8 * k + 3) 0 * 2 ^ 32 + getD bytes (8 * k + 4) 0 * 2 ^ 24 + getD bytes (8 * k + 5) 0 * 2 ^ 16
-        + getD bytes (8 * k + 6) 0 * 2 ^ 8 + getD bytes (8 * k + 7) 0
-    instant-read =
-        let first : 8 * k + 0 ≡ 8 * k = omega arith in
-        let b0 = byte-of 0 (omega arith) ∙ ap (λ (i : ℕ). getD bytes i 0) first in
-        omega (
-          arith,
-          instant-is,
-          eight (row 8 bytes k) (row-length 8 bytes k inside),
-          b0,
-          byte-of 1 (omega arith),
-          byte-of 2 (omega arith),
-          byte-of 3 (omega arith),
-          byte-of 4 (omega arith),
-          byte-of 5 (omega arith),
-          byte-of 6 (omega arith),
-          byte-of 7 (omega arith),
-        )
+    -- instant k is made of the four bytes from 8 k on and of the four after them
+    pub instant-read : (upper lower : ℕ) → FourRead bytes (8 * k) upper → FourRead bytes (8 * k + 4) lower
+        → lower + 2 ^ 32 * upper ≡ getD (instantsIn bytes) k 0
+    instant-read upper lower u l =
+        let b0 = byte-of 0 (8 * k) (omega arith) (omega arith) in
+        let b1 = byte-of 1 (8 * k + 1) (omega arith) refl in
+        let b2 = byte-of 2 (8 * k + 2) (omega arith) refl in
+        let b3 = byte-of 3 (8 * k + 3) (omega arith) refl in
+        let b4 = byte-of 4 (8 * k + 4) (omega arith) refl in
+        let b5 = byte-of 5 (8 * k + 4 + 1) (omega arith) (omega arith) in
+        let b6 = byte-of 6 (8 * k + 4 + 2) (omega arith) (omega arith) in
+        let b7 = byte-of 7 (8 * k + 4 + 3) (omega arith) (omega arith) in
+        omega (arith, instant-is, eight (row 8 bytes k) (row-length 8 bytes k inside), u .value, l .value)
 
 -- ---- the promise on each way out
 module _ (bytes : List ℕ) (wanted : ℕ) where

@@ -2,9 +2,9 @@
 use mathlib.Core.Path.{_≡_}
 use mathlib.Core.Bool.{not}
 use mathlib.Core.List.{List, [], _∷_, map}
-use Prim.Native.Nat.{ℕ, _%_}
+use Prim.Native.Nat.{ℕ, _+_, _*_, _%_, _^_, _<_}
 use lib.Dec.{eqb}
-use lib.ListN.{length}
+use lib.ListN.{length, getD}
 use Rattle.base.specs.Numbers.{bigEndian}
 use Rattle.base.specs.Refusal.{Line, _when_, answered}
 use Rattle.base.specs.Rows.{rows}
@@ -26,3 +26,10 @@ pub record FindInBytesPromise (bytes : List ℕ) (wanted : ℕ) (r : Found) : Ty
   pub found : Found
   pub promised : FindPromise (instantsIn bytes) wanted found
   pub answer : r ≡ answered Refused (lengthLines bytes) found
+
+-- ---- within the reading of an instant
+
+-- r is the number of the four bytes from place i on
+pub record FourRead (bytes : List ℕ) (i r : ℕ) : Type 0 where
+  pub value : r ≡ getD bytes i 0 * 2 ^ 24 + getD bytes (i + 1) 0 * 2 ^ 16 + getD bytes (i + 2) 0 * 2 ^ 8 + getD bytes (i + 3) 0
+  pub below : r < 2 ^ 32

@@ -1,10 +1,10 @@
 // Finds an instant among instants that come as bytes, eight each, the first byte highest (paper 02, request 14). There is no room to make a list
 // of numbers of them, so each instant is read where it stands; the rule is that of `find`.
 ghost use mathlib.Core.Path.{_≡_};
-ghost use Prim.Native.Nat.{_+_, _*_, _%_, _^_, _≤_};
+ghost use Prim.Native.Nat.{_+_, _*_, _%_, _^_, _≤_, _<_};
 ghost use lib.ListN.{length, getD};
 ghost use Rattle.lookup.specs.Halving.{Search};
-ghost use Rattle.lookup.specs.InBytes.{instantsIn, FindInBytesPromise};
+ghost use Rattle.lookup.specs.InBytes.{instantsIn, FourRead, FindInBytesPromise};
 use crate::End;
 use crate::Found;
 use crate::MOST_INSTANTS;
@@ -51,31 +51,26 @@ fn halve(instants: &[u8], wanted: u64) -> End
     }
 }
 
+// Read in two halves, each a sum from its lowest byte on, so that the eight bytes are compiled to one load.
 fn instant_at(instants: &[u8], place: usize) -> u64
     requires { ⌜ (length (now instants) % 8 ≡ 0) × (8 * place + 8 ≤ length (now instants)) ⌝ }
     ensures { λ r. ⌜ r ≡ getD (instantsIn (now (instants .entry))) place 0 ⌝ }
 {
     let at = WIDTH * place;
-    number(
-        instants[at],
-        instants[at + 1],
-        instants[at + 2],
-        instants[at + 3],
-        instants[at + 4],
-        instants[at + 5],
-        instants[at + 6],
-        instants[at + 7],
-    )
+    four(instants, at + 4) + 0x1_0000_0000 * four(instants, at)
+}
+
+// The number that four bytes are.
+fn four(bytes: &[u8], at: usize) -> u64
+    requires { ⌜ at + 4 ≤ length (now bytes) ⌝ }
+    ensures { λ r. ⌜ FourRead (now (bytes .entry)) at r ⌝ }
+{
+    number(bytes[at], bytes[at + 1], bytes[at + 2], bytes[at + 3])
 }
 
 // The number with these digits to the base 256, the first one highest.
-fn number(b0: u8, b1: u8, b2: u8, b3: u8, b4: u8, b5: u8, b6: u8, b7: u8) -> u64
-    ensures { λ r. ⌜ r
-        ≡ b0 * 2 ^ 56 + b1 * 2 ^ 48 + b2 * 2 ^ 40 + b3 * 2 ^ 32 + b4 * 2 ^ 24 + b5 * 2 ^ 16 + b6 * 2 ^ 8 + b7 ⌝ }
+fn number(b0: u8, b1: u8, b2: u8, b3: u8) -> u64
+    ensures { λ r. ⌜ (r ≡ b0 * 2 ^ 24 + b1 * 2 ^ 16 + b2 * 2 ^ 8 + b3) × (r < 2 ^ 32) ⌝ }
 {
-    let high = wide(b0) * (1 << 56)
-        + wide(b1) * (1 << 48)
-        + wide(b2) * (1 << 40)
-        + wide(b3) * (1 << 32);
-    high + wide(b4) * (1 << 24) + wide(b5) * (1 << 16) + wide(b6) * (1 << 8) + wide(b7)
+    wide(b3) + 0x100 * wide(b2) + 0x1_0000 * wide(b1) + 0x100_0000 * wide(b0)
 }
