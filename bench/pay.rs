@@ -108,7 +108,10 @@ fn reading(r: &mut Random, met: &mut Met) -> Result<(), String> {
 }
 
 fn finding(r: &mut Random, met: &mut Met) -> Result<(), String> {
-    let list = lookup::any_list(r);
+    let mut list = lookup::any_list(r);
+    if r.one_in(50) {
+        list.resize(lookup::MOST - 1 + r.below(4), u64::MAX);
+    }
     let mut bytes: Vec<u8> = list.iter().flat_map(|x| x.to_be_bytes()).collect();
     if r.one_in(6) {
         bytes.resize(bytes.len() + r.below(9), 0xFF);

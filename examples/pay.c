@@ -36,7 +36,7 @@ static uint64_t number_of(const uint8_t *bytes)
 }
 
 /* The result of an answer that is not refused; else the program ends. */
-static uint64_t result_of(const uint8_t answer[PCD_ANSWER])
+static uint64_t result_of(const uint8_t answer[PCD_PAY_ANSWER])
 {
     if (number_of(answer) != 0) {
         fprintf(stderr, "pay: refused %" PRIu64 "\n", number_of(answer));
@@ -50,7 +50,7 @@ static size_t read_times(uint8_t *instants)
 {
     size_t length = 0;
     for (size_t i = 0; i < COUNT; i++) {
-        uint8_t answer[PCD_ANSWER];
+        uint8_t answer[PCD_PAY_ANSWER];
         uint8_t refusal = pcd_pay_instant(FRAMES[i], PCD_TIME, YEAR, answer, sizeof answer);
         if (refusal != 0) {
             printf("frame %u: its time is refused %u, not paid\n", (unsigned)i, (unsigned)refusal);
@@ -66,7 +66,7 @@ static size_t read_times(uint8_t *instants)
 /* How many frames were complete by a change of shift: the place of the last of them plus one. */
 static uint64_t complete_by(const uint8_t *change, const uint8_t *instants, size_t length)
 {
-    uint8_t answer[PCD_ANSWER];
+    uint8_t answer[PCD_PAY_ANSWER];
     pcd_pay_instant(change, PCD_TIME, YEAR, answer, sizeof answer);
     uint64_t end = result_of(answer);
     pcd_pay_find(instants, length, end, answer, sizeof answer);
@@ -78,7 +78,7 @@ static uint64_t complete_by(const uint8_t *change, const uint8_t *instants, size
 
 static double rate(void)
 {
-    uint8_t answer[PCD_ANSWER];
+    uint8_t answer[PCD_PAY_ANSWER];
     double x;
     pcd_pay_number(RATE, sizeof RATE, answer, sizeof answer);
     uint64_t bits = result_of(answer);
@@ -99,10 +99,10 @@ static void pay_shifts(const uint8_t *instants, size_t length)
 
 static void settle(uint8_t a, uint8_t b, uint8_t c)
 {
-    uint8_t answer[PCD_ANSWER];
+    uint8_t answer[PCD_PAY_ANSWER];
     printf("copies %02X %02X %02X: ", (unsigned)a, (unsigned)b, (unsigned)c);
     pcd_pay_vote_bytes(a, b, c, answer, sizeof answer);
-    if (result_of(answer) == PCD_SPLIT)
+    if (result_of(answer) == PCD_PAY_SPLIT)
         printf("split by bytes");
     else
         printf("%02X by bytes", (unsigned)result_of(answer));

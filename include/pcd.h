@@ -68,7 +68,7 @@ extern "C" {
 #define PCD_ENTRY 12             /* the bytes of an entry of a book: instant (8) and offset (4), first byte highest */
 #define PCD_BODY 65536           /* the bytes of a body: four major frames */
 #define PCD_COMPARISON 1530      /* the numbers of the table of a comparison: 510 lines of three */
-#define PCD_ANSWER 16            /* the bytes of an answer to the pay system */
+#define PCD_PAY_ANSWER 16        /* the bytes of an answer to the pay system */
 
 /* ---- The reader
  *
@@ -263,13 +263,13 @@ uint8_t pcd_pointer_distance(uint64_t p, uint64_t q, uint64_t *out);
 
 /* ---- The pay system
  *
- * Each of these writes an answer of PCD_ANSWER bytes: the number of the refusal (8 bytes), then the result (8 bytes, 0 when refused), first byte
+ * Each of these writes an answer of PCD_PAY_ANSWER bytes: the number of the refusal (8 bytes), then the result (8 bytes, 0 when refused), first byte
  * highest. It is written after a refusal too. An answer of another length is refused 2 before all else, and then nothing is written. What is
  * returned is the number of the refusal, 0 for none. */
 
-#define PCD_SPLIT 256            /* the result of a vote that gives no word */
+#define PCD_PAY_SPLIT 256        /* the result of a vote that gives no word */
 
-/* The byte that at least two of three copies have, PCD_SPLIT where all three differ. Refused: 2, the answer's length. */
+/* The byte that at least two of three copies have, PCD_PAY_SPLIT where all three differ. Refused: 2, the answer's length. */
 uint8_t pcd_pay_vote_bytes(uint8_t a, uint8_t b, uint8_t c, uint8_t *answer, size_t answer_len);
 
 /* The byte of which each bit is the one that at least two of three copies have. Refused: 2, the answer's length. */

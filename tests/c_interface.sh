@@ -13,7 +13,7 @@ mkdir -p "$out"
 strict='-Wall -Wextra -Werror -pedantic'
 checked="$strict -g -fsanitize=address,undefined -fno-sanitize-recover=all -I include"
 # The header alone, and with a user of its own that includes it twice.
-printf '#include "pcd.h"\n#include "pcd.h"\nint main(void) { return PCD_SPLIT == 256 ? 0 : 1; }\n' >"$out/alone.c"
+printf '#include "pcd.h"\n#include "pcd.h"\nint main(void) { return PCD_PAY_SPLIT == 256 ? 0 : 1; }\n' >"$out/alone.c"
 gcc -std=c99 $strict -I include -o "$out/alone" "$out/alone.c" && "$out/alone"
 g++ $strict -I include -o "$out/alone" -x c++ "$out/alone.c" && "$out/alone"
 

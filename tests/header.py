@@ -68,6 +68,14 @@ def places():
     return re.findall(r"PCD_\w+", re.search(r"enum \{\s*(PCD_BYTES\b.*?)\}", text, re.S).group(1))
 
 
+def twice():
+    """The names that the header gives to two things: a constant would silently take the place of another."""
+    text = re.sub(r"/\*.*?\*/", " ", open("include/pcd.h", encoding="utf-8").read(), flags=re.S)
+    names = re.findall(r"^#define (PCD_\w+)", text, re.M)
+    names += [name for listed in re.findall(r"enum \{(.*?)\}", text, re.S) for name in re.findall(r"PCD_\w+", listed)]
+    return sorted({name for name in names if names.count(name) > 1})
+
+
 def main():
     wanted, (prototypes, constants) = exported(), declared()
     wrong = ["%s\n  the library has %s\n  the header has  %s" % (name, wanted.get(name), prototypes.get(name))
@@ -77,6 +85,7 @@ def main():
               for name, number in numbers.items() if constants.get(name) != number]
     if constants.get("PCD_NUMBERS") != str(len(places())):
         wrong.append("the header names %d places for the %s numbers of a tally" % (len(places()), constants.get("PCD_NUMBERS")))
+    wrong += ["%s is declared twice" % name for name in twice()]
     if wrong or not numbers:
         sys.exit("include/pcd.h differs from the library:\n" + "\n".join(wrong))
     print("include/pcd.h declares the %d entries that the crates export and %d refusals" % (len(wanted), len(numbers)))

@@ -18,7 +18,7 @@ static const struct {
     uint8_t refusal;
     uint64_t result;
 } WANTED[CALLS] = {
-    {0, PCD_SPLIT},
+    {0, PCD_PAY_SPLIT},
     {0, 0x17},
     {0, 170319486255u},
     {PCD_TIME_OUT_OF_RANGE, 0},
@@ -56,7 +56,7 @@ static int trial(int which, size_t length)
     for (size_t i = 0; i < sizeof lent; i++)
         wanted[i] = lent[i] = (uint8_t)(0xA5 + 7 * i);
     uint8_t number = PCD_WRONG_LENGTH;
-    if (length == PCD_ANSWER) {
+    if (length == PCD_PAY_ANSWER) {
         number = WANTED[which].refusal;
         put(number, wanted + MARGIN);
         put(WANTED[which].result, wanted + MARGIN + 8);
