@@ -1,4 +1,3 @@
 pub mod Halving
 pub mod WholeReading
 pub mod Promises
-pub mod InBytes

@@ -2,4 +2,3 @@ pub mod Halving
 pub mod WholeReading
 pub mod Answer
 pub mod Promise
-pub mod InBytes

@@ -3,7 +3,6 @@
 use mathlib.Core.Path.{_≡_, refl, sym, ap, _∙_, subst}
 use mathlib.Core.Bool.{Bool, true, false, cond, not}
 use mathlib.Core.List.{List, [], _∷_, _++_}
-use mathlib.Core.Option.{some}
 use Prim.Native.Nat.{ℕ, _-_, _^_, _≤_, _<_}
 use native.Mathlib.Omega.{arith}
 use lib.Dec.{T, eqb, ltb}
@@ -26,11 +25,10 @@ use Rattle.float1750.specs.Word.{value}
 use Rattle.float1750.proofs.Encoding.{nan-unread, is-number}
 use Rattle.lookup.specs.declared.Found.{Found}
 use Rattle.lookup.specs.declared.Found.the-variants.{At, Nothing, Refused}
-use Rattle.lookup.specs.Answer.{Values, refused, found, findLines, valuesOf, given}
-use Rattle.lookup.specs.InBytes.{instantsIn, lengthLines, FindInBytesPromise}
-use Rattle.lookup.specs.Promise.{FindPromise}
+use Rattle.lookup.specs.Answer.{findLines, valuesOf, given}
+use Rattle.lookup_bytes.specs.Promise.{instantsIn, lengthLines, FindPromise}
 use Rattle.pay_api.specs.Answer.{Answered}
-use Rattle.pay_api.specs.Entries.{Answers, InstantAnswer, NumberAnswer, FindAnswer, foundResult}
+use Rattle.pay_api.specs.Entries.{InstantAnswer, NumberAnswer, FindAnswer, foundResult}
 
 -- an answer's number and result, each by what it is
 pub said : {number number' result result' r : ℕ} {old new : List ℕ} → number ≡ number' → result ≡ result'
@@ -99,7 +97,7 @@ pub record Halves (place looks : ℕ) : Type 0 where
   pub upper : place < 100000
   pub lower : looks ≤ 17
 
-module _ {bytes : List ℕ} {wanted : ℕ} {f : Found} (p : FindInBytesPromise bytes wanted f) where
+module _ {bytes : List ℕ} {wanted : ℕ} {f : Found} (p : FindPromise bytes wanted f) where
   abbrev xs : List ℕ
   xs = instantsIn bytes
 

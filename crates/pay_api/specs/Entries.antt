@@ -1,7 +1,6 @@
 -- What each of the pay system's entries answers (02, request 14), by the definitions of the inner entries: its lines of the refusal table and its
 -- result. Definitions only.
-use mathlib.Core.Path.{_≡_}
-use mathlib.Core.List.{List, [], _∷_, _++_}
+use mathlib.Core.List.{List, [], _++_}
 use Prim.Native.Nat.{ℕ, _+_, _*_, _^_, _<_}
 use Rattle.base.specs.Refusal.{Line, answered, refusal}
 use Rattle.labelling.specs.declared.Word.{Word}
@@ -14,8 +13,8 @@ use Rattle.float1750.specs.Word.{value}
 use Rattle.lookup.specs.declared.Found.{Found}
 use Rattle.lookup.specs.declared.Found.the-variants.{At, Nothing, Refused}
 use Rattle.lookup.specs.Answer.{findLines, valuesOf}
-use Rattle.lookup.specs.InBytes.{instantsIn, lengthLines}
 use Rattle.lookup.specs.Promise.{FindPromise}
+use Rattle.lookup_bytes.specs.Promise.{instantsIn, lengthLines}
 use Rattle.pay_api.specs.Answer.{Answered}
 
 -- an entry that these lines refuse, with the result 0 then, and that else has this result

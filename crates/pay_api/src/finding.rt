@@ -12,7 +12,7 @@ const UPPER: u64 = 1 << 32;
 pub extern "C" fn pcd_pay_find(instants: &[u8], wanted: u64, answer: &mut [u8]) -> u8
     ensures { λ r. ⌜ FindAnswer (now (instants .entry)) wanted r (now (answer .entry)) (now (answer .exit)) ⌝ }
 {
-    match lookup::find_in_bytes(instants, wanted) {
+    match lookup_bytes::find(instants, wanted) {
         Found::At { place, looks } => return answers::put(
             0,
             (place as u64 + 1) * UPPER + looks as u64,

@@ -1,7 +1,6 @@
 -- `pay_vectors::put_series` is safe and ends: the bytes keep their length, and what is left of them falls. Assumes nothing.
 use mathlib.Core.Path.{_≡_}
 use Prim.Native.Nat.{_-_, _/_}
-use native.Mathlib.Omega.{arith}
 use lib.ListN.{length}
 use borrow.Author.Needs.{needs}
 use Rattle.pay_vectors.proofs.put_series.Statement.{statement}

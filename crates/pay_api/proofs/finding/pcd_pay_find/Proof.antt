@@ -7,8 +7,8 @@ use Rattle.pay_api.proofs.Results.{refusedAs, find-answer, halves}
 use Rattle.pay_api.proofs.finding.pcd_pay_find.Statement.{statement}
 use Rattle.pay_api.proofs.finding.pcd_pay_find.Tie as tie
 
-find-in-bytes-requires : tie.Need-find-in-bytes-requires
-find-in-bytes-requires c κs = search needs
+find-requires : tie.Need-find-requires
+find-requires c κs = search needs
 
 enum-known-place : tie.Need-enum-known-place
 enum-known-place c = search needs
@@ -16,19 +16,19 @@ enum-known-place c = search needs
 add-put : tie.Need-add-put
 add-put c =
     let arm = c .before in
-    let h = halves (arm .before .before .find-in-bytes .ensures) (arm .place .given .1) in
+    let h = halves (arm .before .before .find .ensures) (arm .place .given .1) in
     omega arith
 
 mul-put : tie.Need-mul-put
 mul-put c =
     let arm = c .before in
-    let h = halves (arm .before .before .find-in-bytes .ensures) (arm .place .given .1) in
+    let h = halves (arm .before .before .find .ensures) (arm .place .given .1) in
     omega arith
 
 add-put-2 : tie.Need-add-put-2
 add-put-2 c =
     let arm = c .before in
-    let h = halves (arm .before .before .find-in-bytes .ensures) (arm .place .given .1) in
+    let h = halves (arm .before .before .find .ensures) (arm .place .given .1) in
     omega arith
 
 put-requires : tie.Need-put-requires
@@ -43,7 +43,7 @@ returns c =
     let arm = written .before .before .before in
     let called = arm .before .before in
     let e = arm .place .given .1 in
-    find-answer (called .find-in-bytes .ensures) (omega (arith, ap refusedAs e)) (omega (arith, ap foundResult e)) (written .put .ensures)
+    find-answer (called .find .ensures) (omega (arith, ap refusedAs e)) (omega (arith, ap foundResult e)) (written .put .ensures)
 
 enum-known-looks : tie.Need-enum-known-looks
 enum-known-looks c = search needs
@@ -60,7 +60,7 @@ returns-2 c =
     let arm = written .before .before .before in
     let called = arm .before .before in
     let e = arm .looks .given .1 in
-    find-answer (called .find-in-bytes .ensures) (omega (arith, ap refusedAs e)) (omega (arith, ap foundResult e)) (written .put2 .ensures)
+    find-answer (called .find .ensures) (omega (arith, ap refusedAs e)) (omega (arith, ap foundResult e)) (written .put2 .ensures)
 
 enum-known-number : tie.Need-enum-known-number
 enum-known-number c = search needs
@@ -77,13 +77,13 @@ returns-3 c =
     let arm = written .before .before .before in
     let called = arm .before .before in
     let e = arm .number .given .1 in
-    find-answer (called .find-in-bytes .ensures) (omega (arith, ap refusedAs e)) (omega (arith, ap foundResult e)) (written .put3 .ensures)
+    find-answer (called .find .ensures) (omega (arith, ap refusedAs e)) (omega (arith, ap foundResult e)) (written .put3 .ensures)
 
 pub pcd-pay-find-spec : {M : Type 1} → statement M
 pcd-pay-find-spec =
     tie.close
     (tie.spec
-    find-in-bytes-requires
+    find-requires
     enum-known-place
     add-put
     mul-put

@@ -1,25 +1,22 @@
--- Instants as bytes: how many there are, that instant k is the number of the eight bytes from 8 k on, and the promise of `find_in_bytes` on each of its
+-- Instants as bytes: how many there are, that instant k is the number of the eight bytes from 8 k on, and the promise of `find` on each of its
 -- ways out. Assumes nothing.
-use mathlib.Core.Path.{_≡_, refl, sym, ap, _∙_}
+use mathlib.Core.Path.{_≡_, refl, ap, _∙_}
 use mathlib.Core.List.{List, [], _∷_, map}
 use Prim.Native.Nat.{ℕ, zero, suc, _+_, _*_, _/_, _%_, _^_, _≤_, _<_}
 use native.Mathlib.Omega.{arith}
 use lib.Dec.{lit<}
-use lib.ListN.{length, getD, take, drop}
+use lib.ListN.{length, getD}
 use lib.Seq.{getD-take, getD-drop}
-use borrow.Author.Tests.{eq-eqb, ne-eqb}
+use borrow.Author.Tests.{ne-eqb}
 use Rattle.base.specs.Numbers.{bigEndian}
 use Rattle.base.specs.Rows.{row, rows}
-use Rattle.base.proofs.Lists.{elements, spelled}
+use Rattle.base.proofs.Lists.{spelled}
 use Rattle.base.proofs.Rows.{row-length, rows-length, rows-at}
 use Rattle.lookup.specs.declared.Found.{Found}
 use Rattle.lookup.specs.declared.Found.the-variants.{Refused}
-use Rattle.lookup.specs.Answer.{given}
-use Rattle.lookup.specs.Halving.{Search}
-use Rattle.lookup.specs.InBytes.{instantsIn, FourRead, FindInBytesPromise}
-use Rattle.lookup.specs.Promise.{FindPromise}
-use Rattle.lookup.proofs.Halving.{outcome}
-use Rattle.lookup.proofs.Promises.{refused-12, accepted, answerable}
+use Rattle.lookup.specs.Promise.{FindPromise as FoundAmong}
+use Rattle.lookup.proofs.Promises.{answerable}
+use Rattle.lookup_bytes.specs.Promise.{instantsIn, FourRead, FindPromise}
 
 -- ---- the number of each row
 map-length : (ls : List (List ℕ)) → length (map bigEndian ls) ≡ length ls
@@ -74,11 +71,11 @@ module _ (bytes : List ℕ) (whole : length bytes % 8 ≡ 0) where
 
 -- ---- the promise on each way out
 module _ (bytes : List ℕ) (wanted : ℕ) where
-  pub refused-2 : (length bytes % 8 ≡ 0 → ⊥) → FindInBytesPromise bytes wanted (Refused 2)
+  pub refused-2 : (length bytes % 8 ≡ 0 → ⊥) → FindPromise bytes wanted (Refused 2)
   refused-2 h =
       let a = answerable (instantsIn bytes) wanted in
       record { found = a .found; promised = a .promised; answer = rw (ne-eqb (length bytes % 8) 0 h) }
 
-  -- bytes of the right length have the answer of `find`
-  pub as-numbers : (r : Found) → length bytes % 8 ≡ 0 → FindPromise (instantsIn bytes) wanted r → FindInBytesPromise bytes wanted r
+  -- bytes of the right length have the answer of `lookup::find`
+  pub as-numbers : (r : Found) → length bytes % 8 ≡ 0 → FoundAmong (instantsIn bytes) wanted r → FindPromise bytes wanted r
   as-numbers r whole p = record { found = r; promised = p; answer = rw whole }

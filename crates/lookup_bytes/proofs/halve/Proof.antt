@@ -1,16 +1,16 @@
--- `lookup::in_bytes::halve` meets its contract: each turn is one of the halving rule on the instants that the bytes are. Assumes nothing.
-use mathlib.Core.Path.{_≡_}
+-- `lookup_bytes::halve` meets its contract: each turn is one of the halving rule on the instants that the bytes are. Assumes nothing.
+use mathlib.Core.Path.{_≡_, refl}
 use mathlib.Core.Logic.{⊎-elim}
 use Prim.Native.Nat.{_-_, _/_}
 use native.Mathlib.Omega.{arith}
 use lib.ListN.{length}
 use borrow.Author.Needs.{needs}
 use denote.Ref.{now}
-use Rattle.lookup.specs.InBytes.{instantsIn}
+use Rattle.lookup_bytes.specs.Promise.{instantsIn}
 use Rattle.lookup.proofs.Halving.{Turn, start, turn-past, turn-before, ended}
-use Rattle.lookup.proofs.InBytes.{instants-length}
-use Rattle.lookup.proofs.in_bytes.halve.Statement.{statement}
-use Rattle.lookup.proofs.in_bytes.halve.Tie as tie
+use Rattle.lookup_bytes.proofs.Instants.{instants-length}
+use Rattle.lookup_bytes.proofs.halve.Statement.{statement}
+use Rattle.lookup_bytes.proofs.halve.Tie as tie
 
 abbrev Inv-loop : tie.InvT-loop
 Inv-loop instants wanted low₀ high₀ looks₀ low high looks =
@@ -25,8 +25,8 @@ loop-holds c =
     let many = instants-length bytes (c .before .pre .0) in
     (many, rw (← many) (start (instantsIn bytes) (c .before .args .wanted)))
 
-middle-requires : tie.Need-middle-requires Inv-loop μ-loop
-middle-requires c κs = search needs
+add-half : tie.Need-add-half Inv-loop μ-loop
+add-half c = search needs
 
 instant-at-requires : tie.Need-instant-at-requires Inv-loop μ-loop
 instant-at-requires c κs = search needs
@@ -42,16 +42,15 @@ loop-less c = ⊎-elim (λ w. omega arith) (λ w. omega arith) (c .if1 .came)
 
 loop-again : tie.Need-loop-again Inv-loop μ-loop
 loop-again c =
-    let looked = c .before .before in
+    let looked = c .before in
     let turn = looked .before .before in
     let a = turn .before .before .args in
     let xs = instantsIn (now (a .instants)) in
-    let mid = looked .middle .ensures in
-    let read = c .before .instant-at .ensures in (
+    let read = looked .instant-at .ensures in (
       turn .loop .inv .0,
       ⊎-elim
-          (λ w. turn-past xs (a .wanted) (turn .loop .inv .1) (omega arith) mid (omega arith) (omega arith) (omega arith) (omega arith))
-          (λ w. turn-before xs (a .wanted) (turn .loop .inv .1) (omega arith) mid (omega arith) (omega arith) (omega arith) (omega arith))
+          (λ w. turn-past xs (a .wanted) (turn .loop .inv .1) (omega arith) refl (omega arith) (omega arith) (omega arith) (omega arith))
+          (λ w. turn-before xs (a .wanted) (turn .loop .inv .1) (omega arith) refl (omega arith) (omega arith) (omega arith) (omega arith))
           (c .if1 .came),
     )
 
@@ -65,7 +64,7 @@ halve-spec =
     Inv-loop
     μ-loop
     loop-holds
-    middle-requires
+    add-half
     instant-at-requires
     add-low
     add-looks

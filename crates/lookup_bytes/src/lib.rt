@@ -1,32 +1,36 @@
 // Finds an instant among instants that come as bytes, eight each, the first byte highest (paper 02, request 14). There is no room to make a list
-// of numbers of them, so each instant is read where it stands; the rule is that of `find`.
+// of numbers of them, so each instant is read where it stands; the rule is that of `lookup::find`.
 ghost use mathlib.Core.Path.{_≡_};
 ghost use Prim.Native.Nat.{_+_, _*_, _%_, _^_, _≤_, _<_};
 ghost use lib.ListN.{length, getD};
 ghost use Rattle.lookup.specs.Halving.{Search};
-ghost use Rattle.lookup.specs.InBytes.{instantsIn, FourRead, FindInBytesPromise};
-use crate::End;
-use crate::Found;
-use crate::MOST_INSTANTS;
+ghost use Rattle.lookup_bytes.specs.Promise.{instantsIn, FourRead, FindPromise};
 use base::refusal::LIST_TOO_LONG;
 use base::refusal::WRONG_LENGTH;
 use base::wide;
+use lookup::Found;
 
 // The bytes of an instant.
 const WIDTH: usize = 8;
 
-// The answer of `find` on the instants that the bytes are. Refused 2: no whole number of instants. Refused 12: more than 100,000.
-pub fn find_in_bytes(instants: &[u8], wanted: u64) -> Found
-    ensures { λ r. ⌜ FindInBytesPromise (now (instants .entry)) wanted r ⌝ }
+// The answer of `lookup::find` on the instants that the bytes are. Refused 2: no whole number of instants. Refused 12: more than 100,000.
+pub fn find(instants: &[u8], wanted: u64) -> Found
+    ensures { λ r. ⌜ FindPromise (now (instants .entry)) wanted r ⌝ }
 {
     if instants.len() % WIDTH != 0 {
         return Found::Refused(WRONG_LENGTH);
     }
-    if MOST_INSTANTS < instants.len() / WIDTH {
+    if lookup::MOST_INSTANTS < instants.len() / WIDTH {
         return Found::Refused(LIST_TOO_LONG);
     }
     let end = halve(instants, wanted);
-    crate::answer(end.low, end.looks)
+    lookup::answer(end.low, end.looks)
+}
+
+// Where halving ends: `low`, which `high` has met, and the entries looked at.
+struct End {
+    low: usize,
+    looks: usize,
 }
 
 fn halve(instants: &[u8], wanted: u64) -> End
@@ -37,7 +41,7 @@ fn halve(instants: &[u8], wanted: u64) -> End
     let mut high = instants.len() / WIDTH;
     let mut looks = 0;
     while low < high {
-        let half = crate::middle(low, high);
+        let half = (low + high) / 2;
         if instant_at(instants, half) <= wanted {
             low = half + 1;
         } else {

@@ -1,4 +1,4 @@
--- Instants that come as bytes (02, request 14), and what `find_in_bytes` promises. Definitions only.
+-- Instants that come as bytes (02, request 14), and what `find` promises. Definitions only.
 use mathlib.Core.Path.{_≡_}
 use mathlib.Core.Bool.{not}
 use mathlib.Core.List.{List, [], _∷_, map}
@@ -8,9 +8,9 @@ use lib.ListN.{length, getD}
 use Rattle.base.specs.Numbers.{bigEndian}
 use Rattle.base.specs.Refusal.{Line, _when_, answered}
 use Rattle.base.specs.Rows.{rows}
 use Rattle.lookup.specs.declared.Found.{Found}
 use Rattle.lookup.specs.declared.Found.the-variants.{Refused}
-use Rattle.lookup.specs.Promise.{FindPromise}
+use Rattle.lookup.specs.Promise.{FindPromise as FoundAmong}
 
 -- the instants that the bytes are: eight bytes each, first byte highest
 unfoldable pub instantsIn : List ℕ → List ℕ
@@ -20,11 +20,11 @@ instantsIn bytes = map bigEndian (rows 8 bytes)
 abbrev pub lengthLines : List ℕ → List Line
 lengthLines bytes = 2 when not (eqb (length bytes % 8) 0) ∷ []
 
--- `find_in_bytes` of the wanted instant among these bytes answers r
-pub record FindInBytesPromise (bytes : List ℕ) (wanted : ℕ) (r : Found) : Type 0 where
-  -- an answer of which all that `find` promises on the instants holds
+-- `find` of the wanted instant among these bytes answers r
+pub record FindPromise (bytes : List ℕ) (wanted : ℕ) (r : Found) : Type 0 where
+  -- an answer of which all that `lookup::find` promises on the instants holds
   pub found : Found
-  pub promised : FindPromise (instantsIn bytes) wanted found
+  pub promised : FoundAmong (instantsIn bytes) wanted found
   pub answer : r ≡ answered Refused (lengthLines bytes) found
 
 -- ---- within the reading of an instant

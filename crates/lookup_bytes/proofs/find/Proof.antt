@@ -1,4 +1,4 @@
--- `lookup::in_bytes::find_in_bytes` meets its contract: a wrong length is refused, and of any other the answer is that of `find` on the instants.
+-- `lookup_bytes::find` meets its contract: a wrong length is refused, and of any other the answer is that of `lookup::find`.
 -- Assumes nothing.
 use mathlib.Core.Path.{_≡_}
 use Prim.Native.Nat.{_%_}
@@ -6,11 +6,11 @@ use native.Mathlib.Omega.{arith}
 use lib.ListN.{length}
 use denote.Ref.{now}
 use borrow.Author.Needs.{needs}
-use Rattle.lookup.specs.InBytes.{instantsIn}
-use Rattle.lookup.proofs.InBytes.{instants-length, refused-2, as-numbers}
+use Rattle.lookup_bytes.specs.Promise.{instantsIn}
+use Rattle.lookup_bytes.proofs.Instants.{instants-length, refused-2, as-numbers}
 use Rattle.lookup.proofs.Promises.{refused-12, accepted}
-use Rattle.lookup.proofs.in_bytes.find_in_bytes.Statement.{statement}
-use Rattle.lookup.proofs.in_bytes.find_in_bytes.Tie as tie
+use Rattle.lookup_bytes.proofs.find.Statement.{statement}
+use Rattle.lookup_bytes.proofs.find.Tie as tie
 
 returns : tie.Need-returns
 returns c = refused-2 _ _ (λ whole. omega arith)
@@ -38,6 +38,6 @@ returns-3 c =
     as-numbers bytes (a .wanted) _ whole
     (accepted (instantsIn bytes) (a .wanted) _ _ _ (omega (arith, instants-length bytes whole)) (halved .halve .ensures) (c .answer .ensures))
 
-pub find-in-bytes-spec : {M : Type 1} → statement M
-find-in-bytes-spec =
+pub find-spec : {M : Type 1} → statement M
+find-spec =
     tie.close (tie.spec returns returns-2 halve-requires answer-requires returns-3)

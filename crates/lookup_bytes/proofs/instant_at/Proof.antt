@@ -1,9 +1,9 @@
--- `lookup::in_bytes::instant_at` meets its contract: its two halves are the instant's. Assumes nothing.
+-- `lookup_bytes::instant_at` meets its contract: its two halves are the instant's. Assumes nothing.
 use denote.Ref.{now}
 use borrow.Author.Needs.{needs}
-use Rattle.lookup.proofs.InBytes.{instant-read}
-use Rattle.lookup.proofs.in_bytes.instant_at.Statement.{statement}
-use Rattle.lookup.proofs.in_bytes.instant_at.Tie as tie
+use Rattle.lookup_bytes.proofs.Instants.{instant-read}
+use Rattle.lookup_bytes.proofs.instant_at.Statement.{statement}
+use Rattle.lookup_bytes.proofs.instant_at.Tie as tie
 
 mul-at : tie.Need-mul-at
 mul-at c = search needs
