@@ -36,7 +36,7 @@ fn any_length(r: &mut Random) -> usize {
 }
 
 // In any order, with few different values; or such that it never falls, or strictly rises.
-fn any_list(r: &mut Random) -> Vec<u64> {
+pub fn any_list(r: &mut Random) -> Vec<u64> {
     let n = any_length(r);
     let values = if r.one_in(2) { u64::MAX } else { 1 + n as u64 * 2 };
     let mut list: Vec<u64> = (0..n).map(|_| r.next() % values).collect();
@@ -55,7 +55,7 @@ fn any_list(r: &mut Random) -> Vec<u64> {
 }
 
 // An instant of the list, or one beside it; or any.
-fn any_wanted(r: &mut Random, list: &[u64]) -> u64 {
+pub fn any_wanted(r: &mut Random, list: &[u64]) -> u64 {
     if list.is_empty() || r.one_in(4) {
         return [0, 1, u64::MAX, r.next()][r.below(4)];
     }

@@ -30,7 +30,7 @@ pub struct Groups {
     pub second: u8,
 }
 
-fn vote(rule: u64, copies: [u8; 3]) -> Word {
+pub fn vote(rule: u64, copies: [u8; 3]) -> Word {
     if rule == BY_BITS { Some(by_bits(copies)) } else { by_bytes(copies) }
 }
 

@@ -13,6 +13,8 @@ mod entry;
 #[allow(dead_code)]
 mod lookup;
 #[allow(dead_code)]
+mod pay_api;
+#[allow(dead_code)]
 mod stream;
 #[allow(dead_code)]
 mod tally;
@@ -32,9 +34,9 @@ fn main() {
     println!("lookup: ns a call, {} instants, random wanted ones, best of {ROUNDS} rounds of {CALLS}", lookup::MOST);
     println!("then the proved one's speed as a ratio to each");
     println!();
-    println!("{:<18} | {:>7} {:>7} {:>15} | {:>7} {:>15}", "lists", "proved", "rule", "partition_point", "rule", "partition_point");
-    print_lookup("1 (0.8 MB)", 1);
-    print_lookup("64 (51 MB)", 64);
+    println!("{:<20} | {:>7} {:>7} {:>15} | {:>7} {:>15}", "lists", "proved", "rule", "partition_point", "rule", "partition_point");
+    print_lookups("numbers", FINDERS, |list| list);
+    print_lookups("bytes", BYTE_FINDERS, |list| Instants::of(&list));
     println!();
     println!("gathering word 72: ns a major frame, best of {ROUNDS} rounds over so many areas; then the proved one's speed as a ratio to each");
     println!();
@@ -159,28 +161,76 @@ fn print_gathering(name: &str, areas: usize) {
 const CALLS: usize = 20_000;
 const SHARES: usize = 50;
 
-// The contenders: the place plus one, 0 for none.
-const FINDERS: [fn(&[u64], u64) -> u64; 3] = [proved, |list, wanted| lookup::halve(list, wanted)[0], partition_point];
+// A contender: the place plus one, 0 for none.
+type Finder<L> = fn(&L, u64) -> u64;
 
-fn proved(instants: &[u64], wanted: u64) -> u64 {
+const FINDERS: [Finder<Vec<u64>>; 3] = [proved, |list, wanted| lookup::halve(list, wanted)[0], partition_point];
+
+fn proved(instants: &Vec<u64>, wanted: u64) -> u64 {
     let mut out = [u64::MAX; 2];
     bridge::find(instants, wanted, &mut out);
     out[0]
 }
 
 #[inline(never)]
-fn partition_point(instants: &[u64], wanted: u64) -> u64 {
+fn partition_point(instants: &Vec<u64>, wanted: u64) -> u64 {
     instants.partition_point(|&x| x <= wanted) as u64
 }
 
-fn print_lookup(name: &str, lists: usize) {
+// Instants as bytes, the first byte highest: as the pay system lends them, and eight by eight, as Rust would have them.
+struct Instants {
+    bytes: Vec<u8>,
+    rows: Vec<[u8; 8]>,
+}
+
+impl Instants {
+    fn of(list: &[u64]) -> Instants {
+        let rows: Vec<[u8; 8]> = list.iter().map(|x| x.to_be_bytes()).collect();
+        Instants { bytes: rows.concat(), rows }
+    }
+}
+
+const BYTE_FINDERS: [Finder<Instants>; 3] = [proved_on_bytes, halve_rows, partition_point_of_rows];
+
+fn proved_on_bytes(instants: &Instants, wanted: u64) -> u64 {
+    let mut answer = [0; 16];
+    pay_api::find(&instants.bytes, wanted, &mut answer);
+    u64::from(u32::from_be_bytes([answer[8], answer[9], answer[10], answer[11]]))
+}
+
+#[inline(never)]
+fn halve_rows(instants: &Instants, wanted: u64) -> u64 {
+    let (mut low, mut high) = (0, instants.rows.len());
+    while low != high {
+        let half = (low + high) / 2;
+        if u64::from_be_bytes(instants.rows[half]) <= wanted {
+            low = half + 1;
+        } else {
+            high = half;
+        }
+    }
+    low as u64
+}
+
+#[inline(never)]
+fn partition_point_of_rows(instants: &Instants, wanted: u64) -> u64 {
+    instants.rows.partition_point(|&row| u64::from_be_bytes(row) <= wanted) as u64
+}
+
+// Over one list, which stays in the cache, and over 64 that do not.
+fn print_lookups<L>(what: &str, finders: [Finder<L>; 3], made: fn(Vec<u64>) -> L) {
+    print_lookup(&format!("{what}, 1 (0.8 MB)"), 1, finders, made);
+    print_lookup(&format!("{what}, 64 (51 MB)"), 64, finders, made);
+}
+
+fn print_lookup<L>(name: &str, lists: usize, finders: [Finder<L>; 3], made: fn(Vec<u64>) -> L) {
     let mut r = Random(1);
-    let lists: Vec<Vec<u64>> = (0..lists).map(|_| rising(&mut r)).collect();
+    let lists: Vec<L> = (0..lists).map(|_| made(rising(&mut r))).collect();
     let wanted: Vec<u64> = (0..CALLS * SHARES).map(|_| r.next()).collect();
-    let mut best = [f64::INFINITY; FINDERS.len()];
-    let mut sums = [[0; SHARES]; FINDERS.len()];
+    let mut best = [f64::INFINITY; 3];
+    let mut sums = [[0; SHARES]; 3];
     for round in 0..ROUNDS {
-        for (i, find) in FINDERS.iter().enumerate() {
+        for (i, find) in finders.iter().enumerate() {
             let share = (round + i * 17) % SHARES;
             let started = Instant::now();
             sums[i][share] = find_all(&lists, &wanted[share * CALLS..(share + 1) * CALLS], *find);
@@ -189,7 +239,7 @@ fn print_lookup(name: &str, lists: usize) {
     }
     assert!(sums.iter().all(|sum| *sum == sums[0]), "the answers differ");
     let [proved, rule, std] = best;
-    println!("{name:<18} | {proved:>7.1} {rule:>7.1} {std:>15.1} | {:>7.2} {:>15.2}", rule / proved, std / proved);
+    println!("{name:<20} | {proved:>7.1} {rule:>7.1} {std:>15.1} | {:>7.2} {:>15.2}", rule / proved, std / proved);
 }
 
 fn rising(r: &mut Random) -> Vec<u64> {
@@ -199,7 +249,7 @@ fn rising(r: &mut Random) -> Vec<u64> {
 }
 
 // A sum over the answers, in list after list.
-fn find_all(lists: &[Vec<u64>], wanted: &[u64], find: fn(&[u64], u64) -> u64) -> u64 {
+fn find_all<L>(lists: &[L], wanted: &[u64], find: Finder<L>) -> u64 {
     let answers = wanted.iter().zip(lists.iter().cycle()).map(|(&w, list)| find(list, w));
     answers.fold(0, |sum, low| sum.wrapping_mul(31).wrapping_add(low))
 }

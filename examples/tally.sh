@@ -1,11 +1,10 @@
 #!/usr/bin/env bash
-# tally.sh [FILE..]: holds include/pcd.h to the library's entries, builds examples/tally.c with it and with libbridge.a, and compares what it
-# prints with what bin/pcd-tally prints, on these files and some of its own. Ends with status 1 where something differs.
+# tally.sh [FILE..]: builds examples/tally.c with include/pcd.h and libbridge.a, and compares what it prints with what bin/pcd-tally prints, on
+# these files and some of its own. Ends with status 1 where something differs.
 set -euo pipefail
 cd "$(dirname "${BASH_SOURCE[0]}")/.."
 source bench/build.sh
-python3 tests/header.py
-archive
+archive bridge
 mkdir -p target/examples
 cc -std=c99 -Wall -Wextra -Werror -pedantic -O2 -I include -o target/examples/tally examples/tally.c target/staticlib/libbridge.a
 

@@ -1,19 +1,19 @@
 /*
  * Landsat 7 payload correction data (PCD): the proved library for programs in C.
  *
- *     rt staticlib bridge                                  target/staticlib/libbridge.a
+ *     rt staticlib bridge                                  target/staticlib/libbridge.a: every function here but pcd_pay_..
  *     cc -I include program.c target/staticlib/libbridge.a
+ *     rt staticlib pay_api                                 target/staticlib/libpay_api.a: pcd_pay_..; both archives may be linked together
  *
- * Every function but pcd_fresh, which refuses nothing, returns the number of its refusal, 0 for none. A refused call leaves all lent memory
- * as it was. Where several refusals apply, the lowest number is given; but 4 goes before 2 where a length depends on the spacing, and
- * 13 before 6.
- * Every function returns the number of its refusal, 0 for none. A refused call leaves all lent memory as it was; only pcd_fresh then writes,
- * as it says. Where several refusals apply, the lowest number is given; but 4 goes before 2 where a length depends on the spacing.
+ * Every function returns the number of its refusal, 0 for none. A refused call leaves all lent memory as it was, but for what pcd_fresh,
+ * pcd_book_check and pcd_pay_.. say of theirs. Where several refusals apply, the first in this order is given: 15; 1, 14, 2, 3, 4, 5, 13, 6 to 12,
+ * 16 to 29; but 4 goes before 2 where a length depends on the spacing, and a book of fewer than 4 bytes is 16.
  *
  * What a caller owes: each pointer leads to as many elements as its array or its count says, none is NULL (with a count of 0 too), and
  * no two of them overlap. Everything else is tested. Nothing is kept between calls but what the caller lends.
  *
- * A plain array, as numbers[PCD_NUMBERS], has its length in its type: it crosses as a pointer alone, and no count of it can be wrong.
+ * A slice crosses as a pointer and the count of its elements, as piece and piece_len. A plain array, as numbers[PCD_NUMBERS], has its length in its
+ * type: it crosses as a pointer alone, and no count of it can be wrong.
  */
 #ifndef PCD_H
 #define PCD_H
@@ -68,6 +68,7 @@ extern "C" {
 #define PCD_ENTRY 12             /* the bytes of an entry of a book: instant (8) and offset (4), first byte highest */
 #define PCD_BODY 65536           /* the bytes of a body: four major frames */
 #define PCD_COMPARISON 1530      /* the numbers of the table of a comparison: 510 lines of three */
+#define PCD_PAY_ANSWER 16        /* the bytes of an answer to the pay system */
 
 /* ---- The reader
  *
@@ -219,6 +220,7 @@ uint8_t pcd_book_body(const uint8_t *book, size_t book_len, uint64_t i, uint64_t
  * lines gets how many there are; the rest of the table stays. Books are equal byte for byte exactly where there are none. Refused, in this order: 2,
  * another size of the table; those of pcd_book_view_refusal for the first, then for the second; 21. */
 uint8_t pcd_book_compare(const uint8_t *first, size_t first_len, const uint8_t *second, size_t second_len, uint64_t *table, size_t table_len, uint64_t *lines);
+
 /* ---- VCDU headers of eight bytes: bytes 0, 1 and 5 are six symbols of four bits, which the four check symbols in bytes 6 and 7 protect. The
  * counter in bytes 2 to 4 is not protected, and never changes. */
 
@@ -230,6 +232,7 @@ uint8_t pcd_check_header(const uint8_t *header, size_t header_len, uint64_t *out
 
 /* Puts the only code word within two symbols into the header; out gets how many symbols were wrong. Refused: 22; 23, there is none. */
 uint8_t pcd_repair_header(uint8_t *header, size_t header_len, uint64_t *out);
+
 /* ---- Frames held in the slots of an area
  *
  * The area is 1 to 64 slots of PCD_MAJOR_FRAME bytes; slot i begins at i * PCD_MAJOR_FRAME. The bits tell which are in use, 2^i for slot i: begin with
@@ -257,6 +260,30 @@ uint8_t pcd_pointer_after(uint64_t p, uint64_t n, uint64_t *out);
 
 /* The smallest number of frames from p on to q, 0 to 84. Refused: 28, either pointer. */
 uint8_t pcd_pointer_distance(uint64_t p, uint64_t q, uint64_t *out);
+
+/* ---- The pay system
+ *
+ * Each of these writes an answer of PCD_PAY_ANSWER bytes: the number of the refusal (8 bytes), then the result (8 bytes, 0 when refused), first byte
+ * highest. It is written after a refusal too. An answer of another length is refused 2 before all else, and then nothing is written. What is
+ * returned is the number of the refusal, 0 for none. */
+
+#define PCD_PAY_SPLIT 256        /* the result of a vote that gives no word */
+
+/* The byte that at least two of three copies have, PCD_PAY_SPLIT where all three differ. Refused: 2, the answer's length. */
+uint8_t pcd_pay_vote_bytes(uint8_t a, uint8_t b, uint8_t c, uint8_t *answer, size_t answer_len);
+
+/* The byte of which each bit is the one that at least two of three copies have. Refused: 2, the answer's length. */
+uint8_t pcd_pay_vote_bits(uint8_t a, uint8_t b, uint8_t c, uint8_t *answer, size_t answer_len);
+
+/* The instant of a time of PCD_TIME bytes in a year, as of pcd_decode_time. Refused: 2, either length; 13; 8. */
+uint8_t pcd_pay_instant(const uint8_t *bytes, size_t bytes_len, uint64_t year, uint8_t *answer, size_t answer_len);
+
+/* The 64 bits of the double that PCD_NUMBER bytes are, as of pcd_decode_number. Refused: 2, either length; 10. */
+uint8_t pcd_pay_number(const uint8_t *bytes, size_t bytes_len, uint8_t *answer, size_t answer_len);
+
+/* Finds the last instant at or before the wanted one, as pcd_find does, among instants of eight bytes each, first byte highest: the result has its
+ * place plus one in the upper 32 bits, 0 for none, and how many instants were looked at in the lower. Refused: 2, either length; 12. */
+uint8_t pcd_pay_find(const uint8_t *instants, size_t instants_len, uint64_t wanted, uint8_t *answer, size_t answer_len);
 
 #ifdef __cplusplus
 }

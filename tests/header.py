@@ -1,5 +1,5 @@
 #!/usr/bin/env python3
-"""Sees that include/pcd.h declares exactly the entries that crates/bridge exports, with their types, the refusal numbers of crates/base, and a place for
+"""Sees that include/pcd.h declares exactly the entries that the crates export, with their types, the refusal numbers of crates/base, and a place for
 each number of a tally.
 
 Run from the repository's root: python3 tests/header.py. The prototype of each entry is made from its signature in Rattle and compared with the
@@ -36,7 +36,7 @@ def parameter(name, kind):
 
 def exported():
     """Each exported entry's prototype, from its signature."""
-    text = "".join(open(path, encoding="utf-8").read() for path in sorted(glob.glob("crates/bridge/src/*.rt")))
+    text = "".join(open(path, encoding="utf-8").read() for path in sorted(glob.glob("crates/*/src/*.rt")))
     entries = {}
     for name, given, answer in re.findall(r'#\[no_mangle\]\npub extern "C" fn (\w+)\((.*?)\)(?: -> (\w+))?\n', text, re.S):
         parameters = [p.strip().split(": ", 1) for p in re.split(r",\s*(?=\w+: |$)", given.strip()) if p.strip()]
@@ -68,6 +68,14 @@ def places():
     return re.findall(r"PCD_\w+", re.search(r"enum \{\s*(PCD_BYTES\b.*?)\}", text, re.S).group(1))
 
 
+def twice():
+    """The names that the header gives to two things: a constant would silently take the place of another."""
+    text = re.sub(r"/\*.*?\*/", " ", open("include/pcd.h", encoding="utf-8").read(), flags=re.S)
+    names = re.findall(r"^#define (PCD_\w+)", text, re.M)
+    names += [name for listed in re.findall(r"enum \{(.*?)\}", text, re.S) for name in re.findall(r"PCD_\w+", listed)]
+    return sorted({name for name in names if names.count(name) > 1})
+
+
 def main():
     wanted, (prototypes, constants) = exported(), declared()
     wrong = ["%s\n  the library has %s\n  the header has  %s" % (name, wanted.get(name), prototypes.get(name))
@@ -77,9 +85,10 @@ def main():
               for name, number in numbers.items() if constants.get(name) != number]
     if constants.get("PCD_NUMBERS") != str(len(places())):
         wrong.append("the header names %d places for the %s numbers of a tally" % (len(places()), constants.get("PCD_NUMBERS")))
+    wrong += ["%s is declared twice" % name for name in twice()]
     if wrong or not numbers:
         sys.exit("include/pcd.h differs from the library:\n" + "\n".join(wrong))
-    print("include/pcd.h declares the %d entries of the library and %d refusals" % (len(wanted), len(numbers)))
+    print("include/pcd.h declares the %d entries that the crates export and %d refusals" % (len(wanted), len(numbers)))
 
 
 main()

@@ -13,7 +13,8 @@ pub enum Found {
     Refused(u8),
 }
 
-const MOST_INSTANTS: usize = 100_000;
+// As many instants as a list may have.
+pub const MOST_INSTANTS: usize = 100_000;
 
 // The last place whose instant is at most `wanted`; of a list that does not rise, the place that halving comes to. Refused 12: more than
 // 100,000 instants.
@@ -63,8 +64,8 @@ fn middle(low: usize, high: usize) -> usize
     (low + high) / 2
 }
 
-// The answer is low - 1, or none.
-fn answer(low: usize, looks: usize) -> Found
+// The answer where halving ends with this `low` after these looks: the place is low - 1, or there is none.
+pub fn answer(low: usize, looks: usize) -> Found
     ensures { λ r. ⌜ r ≡ given low looks ⌝ }
 {
     if low == 0 {
