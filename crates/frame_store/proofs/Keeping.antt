@@ -13,7 +13,8 @@ use Rattle.base.specs.Format.{majorFrame}
 use Rattle.base.specs.Refusal.{_when_, refusal}
 use Rattle.frame_store.specs.Slots.{slots, wholeSlots, start, slotBytes, withFrame, inUse, lowest, lowestFree}
 use Rattle.frame_store.specs.Answers.{storeRefusal, slotRefusal, partOf}
-use Rattle.frame_store.specs.Calls.{Call, storing, releasing, reading, Handed, begun, accepted, refused, Deed, put, freed, nothing, deed, holdAfter, held, isHeld, partHeld, bytesAfter, lastBytes, Kept}
+use Rattle.frame_store.specs.Calls.{Call, storing, releasing, reading, Handed, begun, accepted, refused, Deed, put, freed, nothing, deed}
+use Rattle.frame_store.specs.Calls.{holdAfter, held, isHeld, partHeld, bytesAfter, lastBytes, Kept}
 use Rattle.frame_store.proofs.Bits.{no-bits, set-bit, set-below, bit-le, clear-bit}
 use Rattle.frame_store.proofs.Lowest.{clash, same-lowest}
 use Rattle.frame_store.proofs.Areas.{there, same-length, elsewhere}

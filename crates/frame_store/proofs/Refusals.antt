@@ -182,7 +182,9 @@ module _ (size bits : ℕ) where
 
   pub wrong-area : (frame : List ℕ) (n : ℕ) → length frame ≡ majorFrame → refusal (areaLines size bits) ≡ n → (n ≡ 0 → ⊥)
       → refusal (storeLines size bits frame) ≡ n
-  wrong-area frame n sized e z = rw (eq-eqb (length frame) majorFrame sized) (refusal-append (areaLines size bits) (26 when eqb (lowestFree (slots size) bits) (slots size) ∷ []) n e z)
+  wrong-area frame n sized e z =
+      let full = eqb (lowestFree (slots size) bits) (slots size) in
+      rw (eq-eqb (length frame) majorFrame sized) (refusal-append (areaLines size bits) (26 when full ∷ []) n e z)
 
   pub all-used : (frame : List ℕ) → length frame ≡ majorFrame → Fitting → lowestFree (slots size) bits ≡ slots size
       → refusal (storeLines size bits frame) ≡ 26
