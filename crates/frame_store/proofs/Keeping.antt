@@ -1,4 +1,5 @@
--- Every list of calls keeps bits, area and what the calls did in step. Assumes nothing.
+-- Every list of calls keeps bits, area and what the calls did in step. `Sound` is what is kept, and each call keeps it by what it does to one slot:
+-- nothing, a frame stored, or the slot freed. That a frame held is the last one stored there is read off the list. Assumes nothing.
 use mathlib.Core.Path.{_≡_, refl, sym, ap, _∙_}
 use mathlib.Core.Bool.{Bool, true, false, cond, not, _&&_}
 use mathlib.Core.List.{List, [], _∷_}

@@ -1,4 +1,6 @@
--- What an accepted call knows, what makes a call accepted, and which number a refused one has. Assumes nothing.
+-- What an accepted call knows, what makes a call accepted, and which number a refused one has. The tests of the refusal table are turned into named
+-- facts (`Fitting`, `Granted`, `Storable`) and back once, here, so that no proof of a function or of a list of calls looks into the table.
+-- Assumes nothing.
 use mathlib.Core.Path.{_≡_, refl, sym, ap, _∙_}
 use mathlib.Core.Bool.{Bool, true, false, cond, not, _&&_}
 use mathlib.Core.List.{List, [], _∷_, _++_}
