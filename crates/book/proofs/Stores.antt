@@ -18,30 +18,29 @@ use Rattle.book.specs.Layout.{bodyStart, bookLength, entry, book}
 use Rattle.book.specs.Writing.{bodiesIn}
 use Rattle.book.specs.Sought.{rowInstant}
 
--- a number written into the part from a up to e
-written : (a e x : ℕ) (l new : List ℕ) → e ≤ length l → new ≡ bytesOf (length (midOf a (e - a) l)) x → new ≡ bytesOf (e - a) x
-written a e x l new h f = f ∙ ap (λ (w : ℕ). bytesOf w x) (mid-len a e l h)
+-- two numbers, of m and of k bytes, written one behind the other at the front
+both-put : (m k x y : ℕ) (l u v : List ℕ) → m + k ≤ length l → u ≡ bytesOf (length (midOf 0 m l)) x
+    → v ≡ bytesOf (length (midOf m k (putMid 0 m l u))) y
+    → putMid m k (putMid 0 m l u) v ≡ bytesOf m x ++ (bytesOf k y ++ drop (m + k) l)
+both-put m k x y l u v h f g =
+    let first : u ≡ bytesOf m x = f ∙ ap (λ (w : ℕ). bytesOf w x) (length-take-le m l (omega arith)) in
+    let wide : length u ≡ m = rw first (length-bytesOf m x) in
+    let rest : drop m (u ++ drop m l) ≡ drop m l = drop-at u (drop m l) m wide in
+    let second : v ≡ bytesOf k y =
+    g ∙ rw rest (ap (λ (w : ℕ). bytesOf w y) (length-take-le k (drop m l) (omega (arith, length-drop m l)))) in
+    rw (take-at u (drop m l) m wide, rest, drop-drop k m l, first, second)
 
 -- ---- the header
 pub header-put : (n y : ℕ) (l u v : List ℕ) → 4 ≤ length l → u ≡ bytesOf (length (midOf 0 2 l)) n
     → v ≡ bytesOf (length (midOf 2 2 (putMid 0 2 l u))) y
     → putMid 2 2 (putMid 0 2 l u) v ≡ bytesOf 2 n ++ (bytesOf 2 y ++ drop 4 l)
-header-put n y l u v h f g =
-    let first = written 0 2 n l u (omega arith) f in
-    let long : 4 ≤ length (putMid 0 2 l u) = rw first (omega (arith, length-drop 2 l)) in
-    let second = written 2 4 y (putMid 0 2 l u) v long g in
-    rw (first, second) (ap (λ (r : List ℕ). bytesOf 2 n ++ (bytesOf 2 y ++ r)) (drop-drop 2 2 l))
+header-put = both-put 2 2
 
 -- ---- an entry
 pub entry-put : (t s : ℕ) (l u v : List ℕ) → length l ≡ 12 → u ≡ bytesOf (length (midOf 0 8 l)) t
     → v ≡ bytesOf (length (midOf 8 4 (putMid 0 8 l u))) s
     → putMid 8 4 (putMid 0 8 l u) v ≡ bytesOf 8 t ++ bytesOf 4 s
-entry-put t s l u v h f g =
-    let first = written 0 8 t l u (omega arith) f in
-    let long : 12 ≤ length (putMid 0 8 l u) = rw first (omega (arith, length-drop 8 l)) in
-    let second = written 8 12 s (putMid 0 8 l u) v long g in
-    let none : drop 4 (drop 8 l) ≡ [] = drop-of-length-le (drop 8 l) {i = 4} (omega (arith, length-drop 8 l)) in
-    rw (first, second) (ap (λ (r : List ℕ). bytesOf 8 t ++ (bytesOf 4 s ++ r)) none)
+entry-put t s l u v h f g = both-put 8 4 t s l u v (omega arith) f g ∙ rw (drop-of-length-le l {i = 12} (omega arith))
 
 -- ---- the entries, and the whole
 module _ (y : ℕ) (bodies : List ℕ) (n : ℕ) (whole : length bodies ≡ 65536 * n) where

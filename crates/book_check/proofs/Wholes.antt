@@ -225,8 +225,10 @@ unfolding writeRefusal writeAfter
 given-clear b g =
     let cycles = bodiesIn (g .bodies) in
     let lines = writeLines (g .year) (g .bodies) (g .out) in
+    let whole = eqb (length (g .bodies) % 65536) 0 in
+    let none = clear whole (eqb (length (g .out)) (bookLength (length cycles))) (g .unrefused) in
     ap viewRefusal (g .is ∙ given-is (g .out) (book (g .year) cycles) lines positive (g .unrefused))
-    ∙ accepted (g .year) cycles (none-sound (contentsOf (g .year) cycles) (clear (eqb (length (g .bodies) % 65536) 0) (eqb (length (g .out)) (bookLength (length cycles))) (g .unrefused)))
+    ∙ accepted (g .year) cycles (none-sound (contentsOf (g .year) cycles) none)
   where
     clear : (p q : Bool) → _≡_ {A = ℕ} (cond (not p) 2 (cond (not q) 2 (number (contentsOf (g .year) (bodiesIn (g .bodies)))))) 0
         → number (contentsOf (g .year) (bodiesIn (g .bodies))) ≡ 0

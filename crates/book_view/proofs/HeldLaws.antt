@@ -13,7 +13,7 @@ use borrow.Rule.Slice.Shared.{byByte}
 use Rattle.book.specs.declared.parts.Place.{Place}
 use Rattle.book.specs.Layout.{bytesAt}
 use Rattle.book.specs.Faults.{viewRefusal}
-use Rattle.book.specs.Parts.{place, nowhere, hasSize, entryPlace, bodyPlace, IsPart}
+use Rattle.book.specs.Parts.{place, nowhere, IsPart}
 use Rattle.book_view.specs.Held.{heldPlace, heldOf}
 
 -- ---- what is held
@@ -77,13 +77,3 @@ module _ (P : List ℕ → Place) (none : P [] ≡ nowhere) where
         block = e .block ∙ h .block;
         offset = let a = e .offset in let b = h .offset in let c = ap (λ (l : List ℕ). P l .start) is in omega (arith, a, b, c);
       }
-
-pub entry-through : (i : ℕ) (r w s : RefT (List ℕ)) → IsPart w s (heldPlace (now s))
-    → IsPart r w (entryPlace (now w) i) → IsPart r s (entryPlace (heldOf (now s)) i)
-unfolding entryPlace hasSize
-entry-through i = part-through (λ l. entryPlace l i) refl
-
-pub body-through : (i : ℕ) (r w s : RefT (List ℕ)) → IsPart w s (heldPlace (now s))
-    → IsPart r w (bodyPlace (now w) i) → IsPart r s (bodyPlace (heldOf (now s)) i)
-unfolding bodyPlace hasSize
-body-through i = part-through (λ l. bodyPlace l i) refl

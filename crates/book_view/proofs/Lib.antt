@@ -3,3 +3,4 @@ mod Handed
 mod Told
 mod Through
 mod ToldThrough
+mod Results

@@ -1,22 +1,27 @@
--- The instant of a body: the seven bytes that it is read from, and that it fits eight bytes. Assumes nothing.
-use mathlib.Core.Path.{_≡_, refl, sym, ap, _∙_}
-use mathlib.Core.Bool.{Bool}
+-- The instant of a body: the seven bytes that it is read from, that it fits eight bytes, and that a cycle has one. Assumes nothing.
+use mathlib.Core.Path.{_≡_, refl, sym, ap, subst, _∙_}
+use mathlib.Core.Bool.{Bool, true, false, cond, not, _&&_, _||_}
 use mathlib.Core.List.{List, [], _∷_}
-use Prim.Native.Nat.{ℕ, _+_, _*_, _^_, _<_}
+use Prim.Native.Nat.{ℕ, _+_, _*_, _^_, _≤_, _<_}
 use native.Mathlib.Omega.{arith}
-use lib.Dec.{T}
+use lib.Dec.{T, eqb}
 use lib.Ieee.Fits.{and-l, and-r}
-use lib.ListN.{getD, take, drop}
+use lib.ListN.{length, getD, take, drop}
 use lib.Seq.{getD-take}
+use Rattle.base.specs.Format.{majorFrame}
+use Rattle.base.specs.Ranges.{each}
+use Rattle.base.specs.Refusal.{_when_, answered}
 use Rattle.base.specs.Rows.{row}
-use Rattle.time_code.specs.Codec.{decoded}
+use Rattle.time_code.specs.Calendar.{inSpan}
+use Rattle.time_code.specs.Codec.{decoded, timeOf}
 use Rattle.time_code.specs.Fields.{day, hour, minute, second, millisecond, sixteenth, decimal, inRange, isTime, instant}
 use Rattle.time_code.specs.declared.Decoded.{Decoded}
 use Rattle.time_code.specs.declared.Decoded.the-variants as time
 use Rattle.time_code.proofs.Codes.{to-accepted}
 use Rattle.time_code.proofs.Fields.{Digits, to-digits, InRange, to-range}
-use Rattle.word72_column.specs.Columns.{gathered}
-use Rattle.cycle.specs.Cycle.{timeBytes, instantIn, instantOf}
+use Rattle.word72_column.specs.Columns.{gathered, bears, timed, columnKind}
+use Rattle.word72_column.specs.declared.ColumnKind.the-variants as column
+use Rattle.cycle.specs.Cycle.{cycleLength, allNumbered, answersKind, isKind, isMajor, isCycle, timeBytes, instantIn, instantOf}
 
 -- word 72 of the minor frames 96 to 102
 pub time-bytes : (body : List ℕ) (b0 b1 b2 b3 b4 b5 b6 : ℕ) → b0 ≡ getD body 12360 0 → b1 ≡ getD body 12488 0 → b2 ≡ getD body 12616 0
@@ -69,3 +74,55 @@ instant-fits y body = go (decoded y (timeBytes body)) refl
         let same = ap (λ (u : _). u .instant) (a .is-read) in
         omega arith
     go (time.Refused n) e = omega arith
+
+-- ---- a cycle has a time code, so that its instant is never the 0 of a refused one
+
+-- a column that is answered kind 0 bears a time code of a year of the span
+kind-timed : (y : ℕ) (c : List ℕ) → T (answersKind 0 (columnKind y c)) → (inSpan y ≡ true) × (timed y c ≡ true)
+unfolding columnKind
+kind-timed y c h = go (eqb (length c) 128) (inSpan y) (bears 1 c) (bears 2 c) (bears 3 c) (timed y c) h
+  where
+    go : (long inside one two three time : Bool)
+        → T (answersKind 0 (answered column.Refused
+        (2 when not long ∷ 13 when not inside ∷ 6 when not (one || two || three || time) ∷ [])
+        (column.Kind (cond one 1 (cond two 2 (cond three 3 0))))))
+        → (inside ≡ true) × (time ≡ true)
+    go false inside one two three time h = absurd h
+    go true false one two three time h = absurd h
+    go true true true two three time h = absurd h
+    go true true false true three time h = absurd h
+    go true true false false true time h = absurd h
+    go true true false false false true h = (refl, refl)
+    go true true false false false false h = absurd h
+
+module _ (y : ℕ) (body : List ℕ) (cycle : isCycle y body ≡ true) where
+  abbrev frame : List ℕ
+  frame = row majorFrame body 0
+
+  first-kind : T (isKind y 0 frame)
+  unfolding isCycle isMajor
+  first-kind =
+      let majors = and-r (eqb (length body) cycleLength) (each (λ k. isMajor y k (row majorFrame body k)) 0 4) (subst T (sym cycle) tt) in
+      and-r (allNumbered frame) (isKind y 0 frame) (and-l (isMajor y 0 frame) (each (λ k. isMajor y k (row majorFrame body k)) 1 3) majors)
+
+  timed-so : (inSpan y ≡ true) × (isTime y (timeBytes body) ≡ true)
+  unfolding isKind timeBytes
+  timed-so = kind-timed y (gathered frame) first-kind
+
+  seven : length (timeBytes body) ≡ 7
+  unfolding timeBytes gathered
+  seven = refl
+
+  pub cycle-timed : decoded y (timeBytes body) ≡ time.Time (timeOf (timeBytes body))
+  unfolding decoded
+  cycle-timed = rw (seven, timed-so .0, timed-so .1)
+
+  pub cycle-instant : 0 < instantOf y body
+  unfolding instantOf
+  cycle-instant =
+      let w = timeBytes body in
+      let r = range y w (subst T (sym (timed-so .1)) tt) in
+      rw cycle-timed (positive (day w) (hour w) (minute w) (second w) (millisecond w) (sixteenth w) (r .first))
+    where
+      positive : (d h m s ms x : ℕ) → 1 ≤ d → 0 < ((((d * 24 + h) * 60 + m) * 60 + s) * 1000 + ms) * 16 + x
+      positive d h m s ms x first = omega arith

@@ -9,7 +9,8 @@ use Rattle.base.proofs.Refusals.{NoneHolds, answered-given}
 use Rattle.frame_store.specs.declared.Stored.{Stored}
 use Rattle.frame_store.specs.declared.Released.{Released}
 use Rattle.frame_store.specs.Slots.{slots, start, slotBytes, withFrame, lowestFree}
-use Rattle.frame_store.specs.Answers.{storeLines, slotLines, storeRefusal, slotRefusal, storedIn, notStored, stored, storeLeaves, releasedFrom, notReleased, released, partOf, startOf}
+use Rattle.frame_store.specs.Answers.{storeLines, storeRefusal, storedIn, notStored, stored, storeLeaves}
+use Rattle.frame_store.specs.Answers.{slotLines, slotRefusal, releasedFrom, notReleased, released, partOf, startOf}
 use Rattle.frame_store.specs.Calls.{Call, storing, releasing, reading, refusalOf, deed, put, freed, nothing}
 use Rattle.frame_store.proofs.Refusals.{refused-by, slot-none, store-none}
 

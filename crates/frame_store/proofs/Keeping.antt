@@ -1,4 +1,5 @@
--- Every list of calls keeps bits, area and what the calls did in step. Assumes nothing.
+-- Every list of calls keeps bits, area and what the calls did in step. `Sound` is what is kept, and each call keeps it by what it does to one slot:
+-- nothing, a frame stored, or the slot freed. That a frame held is the last one stored there is read off the list. Assumes nothing.
 use mathlib.Core.Path.{_≡_, refl, sym, ap, _∙_}
 use mathlib.Core.Bool.{Bool, true, false, cond, not, _&&_}
 use mathlib.Core.List.{List, [], _∷_}
@@ -13,7 +14,8 @@ use Rattle.base.specs.Format.{majorFrame}
 use Rattle.base.specs.Refusal.{_when_, refusal}
 use Rattle.frame_store.specs.Slots.{slots, wholeSlots, start, slotBytes, withFrame, inUse, lowest, lowestFree}
 use Rattle.frame_store.specs.Answers.{storeRefusal, slotRefusal, partOf}
-use Rattle.frame_store.specs.Calls.{Call, storing, releasing, reading, Handed, begun, accepted, refused, Deed, put, freed, nothing, deed, holdAfter, held, isHeld, partHeld, bytesAfter, lastBytes, Kept}
+use Rattle.frame_store.specs.Calls.{Call, storing, releasing, reading, Handed, begun, accepted, refused, Deed, put, freed, nothing, deed}
+use Rattle.frame_store.specs.Calls.{holdAfter, held, isHeld, partHeld, bytesAfter, lastBytes, Kept}
 use Rattle.frame_store.proofs.Bits.{no-bits, set-bit, set-below, bit-le, clear-bit}
 use Rattle.frame_store.proofs.Lowest.{clash, same-lowest}
 use Rattle.frame_store.proofs.Areas.{there, same-length, elsewhere}

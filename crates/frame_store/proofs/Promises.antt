@@ -13,7 +13,8 @@ use Rattle.frame_store.specs.Calls.{storing, releasing, reading, accepte
 use Rattle.frame_store.specs.Promise.{StorePromise, ReleasePromise, SlotPromise}
 use Rattle.frame_store.proofs.Areas.{slot-length, there, elsewhere}
 use Rattle.frame_store.proofs.Refusals.{to-granted, room, Storable, to-storable}
-use Rattle.frame_store.proofs.Answered.{stored-taken, bits-taken, leaves-taken, stored-refused, leaves-refused, released-taken, bits-freed, released-refused, part-taken, start-taken, part-refused, start-refused}
+use Rattle.frame_store.proofs.Answered.{stored-taken, bits-taken, leaves-taken, stored-refused, leaves-refused}
+use Rattle.frame_store.proofs.Answered.{released-taken, bits-freed, released-refused, part-taken, start-taken, part-refused, start-refused}
 use Rattle.frame_store.proofs.Keeping.{kept}
 
 -- a number that is not 0 follows another

@@ -1,4 +1,6 @@
--- What an accepted call knows, what makes a call accepted, and which number a refused one has. Assumes nothing.
+-- What an accepted call knows, what makes a call accepted, and which number a refused one has. The tests of the refusal table are turned into named
+-- facts (`Fitting`, `Granted`, `Storable`) and back once, here, so that no proof of a function or of a list of calls looks into the table.
+-- Assumes nothing.
 use mathlib.Core.Path.{_≡_, refl, sym, ap, _∙_}
 use mathlib.Core.Bool.{Bool, true, false, cond, not, _&&_}
 use mathlib.Core.List.{List, [], _∷_, _++_}
@@ -182,7 +184,9 @@ module _ (size bits : ℕ) where
 
   pub wrong-area : (frame : List ℕ) (n : ℕ) → length frame ≡ majorFrame → refusal (areaLines size bits) ≡ n → (n ≡ 0 → ⊥)
       → refusal (storeLines size bits frame) ≡ n
-  wrong-area frame n sized e z = rw (eq-eqb (length frame) majorFrame sized) (refusal-append (areaLines size bits) (26 when eqb (lowestFree (slots size) bits) (slots size) ∷ []) n e z)
+  wrong-area frame n sized e z =
+      let full = eqb (lowestFree (slots size) bits) (slots size) in
+      rw (eq-eqb (length frame) majorFrame sized) (refusal-append (areaLines size bits) (26 when full ∷ []) n e z)
 
   pub all-used : (frame : List ℕ) → length frame ≡ majorFrame → Fitting → lowestFree (slots size) bits ≡ slots size
       → refusal (storeLines size bits frame) ≡ 26

@@ -20,8 +20,12 @@ module _ (l : List ℕ) (h : length l ≡ 8) where
   abbrev n : ℕ → ℕ
   n k = getD l k 0
 
-  pub each-of-eight : (within (n 0) && within (n 1) && within (n 2) && within (n 3) && within (n 4) && within (n 5) && within (n 6) && within (n 7)) ≡ every within l
-  each-of-eight = chained (within (n 0)) (within (n 1)) (within (n 2)) (within (n 3)) (within (n 4)) (within (n 5)) (within (n 6)) (within (n 7)) ∙ ap (every within) (sym (spelled l 8 h))
+  abbrev small : ℕ → Bool
+  small k = within (n k)
+
+  pub each-of-eight : (small 0 && small 1 && small 2 && small 3 && small 4 && small 5 && small 6 && small 7) ≡ every within l
+  each-of-eight =
+      chained (small 0) (small 1) (small 2) (small 3) (small 4) (small 5) (small 6) (small 7) ∙ ap (every within) (sym (spelled l 8 h))
     where
       chained : (a b c d e f g h : Bool) → (a && b && c && d && e && f && g && h) ≡ (a && (b && (c && (d && (e && (f && (g && (h && true))))))))
       chained a b c d e f g true = simp and-assoc

@@ -2,8 +2,8 @@
 // branch, in the order of the definition.
 ghost use mathlib.Core.Path.{_≡_};
 ghost use Rattle.labelling.specs.Machine.{stateOf};
-ghost use Rattle.labelling.specs.Order.{weakBounded, groupsBounded, fewWeak, framingBounded, framingModes, runsBounded, bytesSum, wordsSum, framesSum, sumsHold};
-ghost use Rattle.labelling.specs.Order.{operatorsBounded, paidSum, ruleInOrder, inOrder};
+ghost use Rattle.labelling.specs.Order.{weakBounded, groupsBounded, fewWeak, framingBounded, framingModes, runsBounded, operatorsBounded};
+ghost use Rattle.labelling.specs.Order.{bytesSum, wordsSum, framesSum, sumsHold, paidSum, ruleInOrder, inOrder};
 ghost use Rattle.order.specs.Room.{GroupsRoom, FramingRoom, RunsRoom, StateRoom, OperatorsRoom};
 use labelling::Framing;
 use labelling::Groups;

@@ -1,109 +1,105 @@
 // What is written of a stream.
 use crate::Reading;
-use crate::shifts::Shifts;
 use base::wide;
+use labelling::Framing;
+use labelling::Groups;
 use labelling::Operators;
+use labelling::Runs;
 use labelling::Tally;
 use vectors::bit;
 use vectors::checksum;
-use vectors::field;
-use vectors::put;
+use vectors::fields;
 
 // Which rule was asked for, and whether that was refused.
 pub(crate) fn heading(length: usize, piece: usize, rule: u64, refusal: u8) {
-    field(b"stream of ", length as u64);
-    field(b" bytes in pieces of ", piece as u64);
-    field(b" by rule ", rule);
-    field(b" refused ", wide(refusal));
-    put(b"\n");
+    let numbers = [length as u64, piece as u64, rule, wide(refusal)];
+    fields(
+        b"stream of # bytes in pieces of # by rule # refused #\n",
+        &numbers,
+    );
 }
 
 // A line for a major frame that is paid: how many bytes are taken, and the area.
 pub(crate) fn paid(complete: bool, bytes: u64, area: &[u8]) {
     if complete {
-        field(b"paid at ", bytes);
-        field(b" area ", checksum(area));
-        put(b"\n");
+        let numbers = [bytes, checksum(area)];
+        fields(b"paid at # area #\n", &numbers);
     }
 }
 
 pub(crate) fn whole(r: Reading, area: &[u8]) {
     let t = r.tally;
-    groups(t);
-    framing(t);
-    runs(t);
+    groups(t.groups);
+    framing(t.framing);
+    runs(t.runs);
     paid_to(t.operators, t.rule);
     kept(t);
-    field(b"area ", checksum(area));
-    field(b" calls ", r.calls);
-    field(b" answers ", r.answers);
-    counted(r.shifts, r.refused);
-    field(b" otherwise: ", r.otherwise);
-    put(b"\n");
+    called(r, checksum(area));
 }
 
-fn counted(s: Shifts, refused: u64) {
-    field(b" changed ", s.changed);
-    field(b" refused 2: ", refused);
-    field(b" refused 14: ", s.refused);
+fn groups(g: Groups) {
+    let numbers = [
+        g.bytes,
+        g.fill,
+        g.stray,
+        g.voted,
+        g.split,
+        g.weak.first,
+        g.weak.second,
+        g.weak.third,
+        g.open,
+    ];
+    fields(
+        b"bytes # fill # stray # voted # split # weak1 # weak2 # weak3 # open #",
+        &numbers,
+    );
+}
+
+fn framing(f: Framing) {
+    let numbers = [f.hunted, f.good, f.damaged, f.unsynced, f.placed];
+    fields(b" hunted # good # damaged # unsynced # placed #", &numbers);
+}
+
+fn runs(r: Runs) {
+    let numbers = [r.majors, r.broken, r.loose, r.building];
+    fields(b" majors # broken # loose # building #\n", &numbers);
 }
 
 // The operators' counts, who is on duty, and the rule.
 fn paid_to(o: Operators, rule: u64) {
-    let p = o.paid;
-    field(b"paid to ", p[0]);
-    field(b" ", p[1]);
-    field(b" ", p[2]);
-    field(b" ", p[3]);
-    field(b" ", p[4]);
-    field(b" ", p[5]);
-    field(b" ", p[6]);
-    field(b" ", p[7]);
-    field(b" duty ", o.duty);
-    field(b" rule ", rule);
-    put(b"\n");
-}
-
-fn groups(t: Tally) {
-    field(b"bytes ", t.groups.bytes);
-    field(b" fill ", t.groups.fill);
-    field(b" stray ", t.groups.stray);
-    field(b" voted ", t.groups.voted);
-    field(b" split ", t.groups.split);
-    field(b" weak1 ", t.groups.weak.first);
-    field(b" weak2 ", t.groups.weak.second);
-    field(b" weak3 ", t.groups.weak.third);
-    field(b" open ", t.groups.open);
-}
-
-fn framing(t: Tally) {
-    field(b" hunted ", t.framing.hunted);
-    field(b" good ", t.framing.good);
-    field(b" damaged ", t.framing.damaged);
-    field(b" unsynced ", t.framing.unsynced);
-    field(b" placed ", t.framing.placed);
-}
-
-fn runs(t: Tally) {
-    field(b" majors ", t.runs.majors);
-    field(b" broken ", t.runs.broken);
-    field(b" loose ", t.runs.loose);
-    field(b" building ", t.runs.building);
-    put(b"\n");
+    let paid = o.paid;
+    let numbers = [o.duty, rule];
+    fields(b"paid to # # # # # # # #", &paid);
+    fields(b" duty # rule #\n", &numbers);
 }
 
 // What the tally holds beside the counts.
 fn kept(t: Tally) {
-    field(b"hunting ", bit(t.framing.hunting));
-    field(b" match ", t.framing.matched);
-    field(b" hole ", bit(t.framing.erasure));
-    field(b" copies ", wide(t.groups.first));
-    field(b" ", wide(t.groups.second));
-    field(b" frame ", frame_checksum(t));
-    put(b"\n");
+    let frame = t.frame;
+    let numbers = [
+        bit(t.framing.hunting),
+        t.framing.matched,
+        bit(t.framing.erasure),
+        wide(t.groups.first),
+        wide(t.groups.second),
+        checksum(&frame),
+    ];
+    fields(b"hunting # match # hole # copies # # frame #\n", &numbers);
 }
 
-fn frame_checksum(t: Tally) -> u64 {
-    let frame = t.frame;
-    checksum(&frame)
+// How the calls answered.
+fn called(r: Reading, area: u64) {
+    let numbers = [
+        area,
+        r.calls,
+        r.answers,
+        r.shifts.changed,
+        r.refused,
+        r.shifts.refused,
+        r.otherwise,
+    ];
+    fields(
+        b"area # calls # answers # changed # refused 2: # refused 14: # otherwise: #\n",
+        &numbers,
+    );
 }

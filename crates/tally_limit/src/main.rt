@@ -11,8 +11,10 @@ mod show;
 use labelling::Tally;
 use labelling::Weak;
 use rules::fresh;
+use rules::two_agree;
 use show::call;
 use show::grouped;
+use show::shown;
 use vectors::put;
 
 pub(crate) const LIMIT: u64 = 1 << 40;
@@ -50,11 +52,13 @@ fn main() {
     limit();
     last_byte();
     order();
-    order_in_order();
+    order_of_lengths();
+    order_of_areas();
     limits_of_counts();
     counts_together();
     wrapping_groups();
     wrapping_frames();
+    wrapping_runs();
     bytes_sum();
     words_sum();
     frames_sum();
@@ -62,11 +66,13 @@ fn main() {
     weak_sum_at_the_limit();
     weak_limits();
     wrapping_weak();
+    wrapping_by_one();
     open();
     placed();
     building();
     matched();
-    hunting();
+    placed_while_hunting();
+    building_while_hunting();
     hole();
     free();
     weak_counted();
@@ -79,12 +85,23 @@ fn limit() {
     let mut t = fresh(1);
     t.groups.bytes = THREE_LESS;
     t.groups.fill = THREE_LESS;
-    call(b"3 bytes below the limit, 4 bytes", t, 4, AREA);
-    call(b"3 bytes below the limit, 2 bytes", t, 2, AREA);
-    let full = call(b"3 bytes below the limit, 3 bytes", t, 3, AREA);
-    call(b"at the limit, 1 byte", full, 1, AREA);
-    call(b"at the limit, 4 bytes", full, 4, AREA);
-    call(b"at the limit, no byte", full, 0, AREA);
+    shown(b"3 bytes below the limit, 4 bytes", t, 4, AREA);
+    shown(b"3 bytes below the limit, 2 bytes", t, 2, AREA);
+    at_the_limit(call(b"3 bytes below the limit, 3 bytes", t, 3, AREA));
+}
+
+fn at_the_limit(t: Tally) {
+    shown(b"at the limit, 1 byte", t, 1, AREA);
+    shown(b"at the limit, 4 bytes", t, 4, AREA);
+    shown(b"at the limit, no byte", t, 0, AREA);
+}
+
+// A tally in order at the limit.
+pub(crate) fn full() -> Tally {
+    let mut t = fresh(1);
+    t.groups.bytes = LIMIT;
+    t.groups.fill = LIMIT;
+    t
 }
 
 // One byte short of a major frame.
@@ -113,58 +130,59 @@ fn last_byte() {
     let mut t = one_short(fresh(1));
     t.groups.bytes = ONE_LESS;
     t.groups.fill = LEFT_FOR_FILL;
-    call(
+    shown(
         b"a major frame that the byte after the limit would complete, 2 bytes",
         t,
         2,
         AREA,
     );
-    let paid = call(
+    after_it(call(
         b"a major frame that the byte at the limit completes, 1 byte",
         t,
         1,
         AREA,
-    );
-    call(b"after it, 1 byte", paid, 1, AREA);
-    call(b"after it, no byte", paid, 0, AREA);
+    ));
+}
+
+fn after_it(paid: Tally) {
+    shown(b"after it, 1 byte", paid, 1, AREA);
+    shown(b"after it, no byte", paid, 0, AREA);
 }
 
 // A tally that is not in order.
 fn order() {
     put(b"The order of the refusals\n");
-    let mut t = fresh(1);
-    t.groups.bytes = LIMIT;
-    t.groups.fill = LIMIT;
+    let mut t = full();
     t.framing.matched = 3;
-    call(b"not in order, wrong area, too long", t, 1, 16383);
-    call(b"not in order, wrong area", t, 0, 16383);
-    call(b"not in order, too long", t, 1, AREA);
-    call(b"not in order", t, 0, AREA);
+    shown(b"not in order, wrong area, too long", t, 1, 16383);
+    shown(b"not in order, wrong area", t, 0, 16383);
+    shown(b"not in order, too long", t, 1, AREA);
+    shown(b"not in order", t, 0, AREA);
 }
 
-fn order_in_order() {
-    let mut t = fresh(1);
-    t.groups.bytes = LIMIT;
-    t.groups.fill = LIMIT;
-    call(b"a byte too little area, too long", t, 1, 16383);
-    call(b"a byte too much area, too long", t, 1, 16385);
-    call(b"no area, too long", t, 1, 0);
-    call(b"a byte too little area, no byte", t, 0, 16383);
-    call(b"a byte too much area, no byte", t, 0, 16385);
-    call(b"too long", t, 1, AREA);
-    call(b"none of these", t, 0, AREA);
+fn order_of_lengths() {
+    let t = full();
+    shown(b"a byte too little area, too long", t, 1, 16383);
+    shown(b"a byte too much area, too long", t, 1, 16385);
+    shown(b"no area, too long", t, 1, 0);
+}
+
+fn order_of_areas() {
+    let t = full();
+    shown(b"a byte too little area, no byte", t, 0, 16383);
+    shown(b"a byte too much area, no byte", t, 0, 16385);
+    shown(b"too long", t, 1, AREA);
+    shown(b"none of these", t, 0, AREA);
 }
 
 // A call with no byte: is the tally in order?
 pub(crate) fn asked(name: &[u8], t: Tally) {
-    call(name, t, 0, AREA);
+    shown(name, t, 0, AREA);
 }
 
 fn limits_of_counts() {
     put(b"Each count is at most 2^40\n");
-    let mut t = fresh(1);
-    t.groups.bytes = LIMIT;
-    t.groups.fill = LIMIT;
+    let mut t = full();
     asked(b"bytes and fill 2^40", t);
     t.groups.bytes = ONE_MORE;
     t.groups.fill = ONE_MORE;
@@ -219,7 +237,10 @@ fn wrapping_frames() {
     t.framing.damaged = 0;
     t.framing.unsynced = P57;
     asked(b"no word, unsynced 2^57", t);
-    t.framing.unsynced = 0;
+}
+
+fn wrapping_runs() {
+    let mut t = fresh(1);
     t.framing.good = P57;
     t.runs.loose = P57;
     asked(b"no word, good and loose 2^57", t);
@@ -297,10 +318,10 @@ fn weak_sum() {
     t.groups.voted = 10;
     t.groups.split = 3;
     t.framing.hunted = 13;
-    asked_weak(b"voted 10, split 3, weak 2 + 3 + 5", t, weak(2, 3, 5));
-    asked_weak(b"voted 10, split 3, weak 3 + 3 + 5", t, weak(3, 3, 5));
-    asked_weak(b"voted 10, split 3, weak 2 + 4 + 5", t, weak(2, 4, 5));
-    asked_weak(b"voted 10, split 3, weak 2 + 3 + 6", t, weak(2, 3, 6));
+    asked_weak(b"voted 10, split 3, weak 2 + 3 + 5", t, 2, 3, 5);
+    asked_weak(b"voted 10, split 3, weak 3 + 3 + 5", t, 3, 3, 5);
+    asked_weak(b"voted 10, split 3, weak 2 + 4 + 5", t, 2, 4, 5);
+    asked_weak(b"voted 10, split 3, weak 2 + 3 + 6", t, 2, 3, 6);
 }
 
 fn weak_sum_at_the_limit() {
@@ -308,8 +329,8 @@ fn weak_sum_at_the_limit() {
     t.groups.bytes = LIMIT;
     t.groups.voted = P38;
     t.framing.hunted = P38;
-    asked_weak(b"voted 2^38, weak 0 + 0 + 2^38", t, weak(0, 0, P38));
-    asked_weak(b"voted 2^38, weak 1 + 0 + 2^38", t, weak(1, 0, P38));
+    asked_weak(b"voted 2^38, weak 0 + 0 + 2^38", t, 0, 0, P38);
+    asked_weak(b"voted 2^38, weak 1 + 0 + 2^38", t, 1, 0, P38);
 }
 
 fn weak_limits() {
@@ -317,37 +338,38 @@ fn weak_limits() {
     t.groups.bytes = LIMIT;
     t.groups.voted = P38;
     t.framing.hunted = P38;
-    asked_weak(b"voted 2^38, weak1 2^40 + 1", t, weak(ONE_MORE, 0, 0));
-    asked_weak(b"voted 2^38, weak2 2^40 + 1", t, weak(0, ONE_MORE, 0));
-    asked_weak(b"voted 2^38, weak3 2^40 + 1", t, weak(0, 0, ONE_MORE));
+    asked_weak(b"voted 2^38, weak1 2^40 + 1", t, ONE_MORE, 0, 0);
+    asked_weak(b"voted 2^38, weak2 2^40 + 1", t, 0, ONE_MORE, 0);
+    asked_weak(b"voted 2^38, weak3 2^40 + 1", t, 0, 0, ONE_MORE);
 }
 
 // Weak counts far above the limit, two of them or one, whose sum modulo 2^64 is 0.
 fn wrapping_weak() {
     let t = fresh(1);
-    asked_weak(b"no group, weak1 and weak2 2^63", t, weak(P63, P63, 0));
-    asked_weak(b"no group, weak2 and weak3 2^63", t, weak(0, P63, P63));
-    asked_weak(b"no group, weak1 and weak3 2^63", t, weak(P63, 0, P63));
-    asked_weak(b"no group, weak1 2^64 - 1, weak2 1", t, weak(LARGEST, 1, 0));
-    asked_weak(b"no group, weak2 2^64 - 1, weak3 1", t, weak(0, LARGEST, 1));
-    asked_weak(b"no group, weak3 2^64 - 1, weak1 1", t, weak(1, 0, LARGEST));
+    asked_weak(b"no group, weak1 and weak2 2^63", t, P63, P63, 0);
+    asked_weak(b"no group, weak2 and weak3 2^63", t, 0, P63, P63);
+    asked_weak(b"no group, weak1 and weak3 2^63", t, P63, 0, P63);
+}
+
+fn wrapping_by_one() {
+    let t = fresh(1);
+    asked_weak(b"no group, weak1 2^64 - 1, weak2 1", t, LARGEST, 1, 0);
+    asked_weak(b"no group, weak2 2^64 - 1, weak3 1", t, 0, LARGEST, 1);
+    asked_weak(b"no group, weak3 2^64 - 1, weak1 1", t, 1, 0, LARGEST);
 }
 
 // Is the tally in order with these weak counts?
-fn asked_weak(name: &[u8], t: Tally, w: Weak) {
-    let mut g = t.groups;
-    g.weak = w;
-    let mut u = t;
-    u.groups = g;
-    asked(name, u);
-}
-
-fn weak(first: u64, second: u64, third: u64) -> Weak {
-    Weak {
+fn asked_weak(name: &[u8], t: Tally, first: u64, second: u64, third: u64) {
+    let weak = Weak {
         first: first,
         second: second,
         third: third,
-    }
+    };
+    let mut g = t.groups;
+    g.weak = weak;
+    let mut u = t;
+    u.groups = g;
+    asked(name, u);
 }
 
 fn open() {
@@ -410,7 +432,7 @@ fn matched() {
     asked(b"match 0 out of hunting", t);
 }
 
-fn hunting() {
+fn placed_while_hunting() {
     put(b"placed and building are 0 while hunting\n");
     let mut t = fresh(1);
     t.groups.bytes = 4;
@@ -419,9 +441,13 @@ fn hunting() {
     asked(b"placed 1 while hunting", t);
     t.framing.hunting = false;
     asked(b"placed 1 out of hunting", t);
+}
+
+fn building_while_hunting() {
+    let mut t = fresh(1);
     t.groups.bytes = 512;
     t.groups.voted = 128;
-    t.framing.placed = 0;
+    t.framing.hunting = false;
     t.framing.good = 1;
     t.runs.building = 1;
     asked(b"building 1 out of hunting", t);
@@ -457,17 +483,22 @@ fn free() {
 
 fn weak_counted() {
     put(b"a voted group counts the copy that disagrees, a split counts none\n");
-    let a = grouped(b"16 07 07 07", fresh(1), &[0x16u8, 7, 7, 7]);
-    let b = grouped(b"16 08 07 07", a, &[0x16u8, 8, 7, 7]);
-    let c = grouped(b"16 07 08 07", b, &[0x16u8, 7, 8, 7]);
-    let d = grouped(b"16 07 07 08", c, &[0x16u8, 7, 7, 8]);
-    let e = grouped(b"16 07 08 09", d, &[0x16u8, 7, 8, 9]);
-    let f = grouped(b"16 16 07 07", e, &[0x16u8, 0x16, 7, 7]);
-    let g = grouped(b"16 07 08", f, &[0x16u8, 7, 8]);
-    let h = grouped(b"08", g, &[8u8]);
+    fill_copied(sync_copied(two_agree(fresh(1))));
+}
+
+// Copies that all differ, and one that is SYNC.
+fn sync_copied(t: Tally) -> Tally {
+    let u = grouped(b"16 07 08 09", t, &[0x16u8, 7, 8, 9]);
+    grouped(b"16 16 07 07", u, &[0x16u8, 0x16, 7, 7])
+}
+
+// A group in two pieces, and copies that are FILL.
+fn fill_copied(t: Tally) {
+    let mut u = grouped(b"16 07 08", t, &[0x16u8, 7, 8]);
+    u = grouped(b"08", u, &[8u8]);
     grouped(
         b"16 32 33 32 16 32 32 33",
-        h,
+        u,
         &[0x16u8, 0x32, 0x33, 0x32, 0x16, 0x32, 0x32, 0x33],
     );
 }

@@ -8,6 +8,7 @@ use crate::P31;
 use crate::P38;
 use crate::P63;
 use crate::asked;
+use crate::full;
 use crate::one_short;
 use crate::rules::fresh;
 use crate::show::call;
@@ -15,7 +16,7 @@ use crate::show::same;
 use labelling::Operators;
 use labelling::Tally;
 use vectors::bit;
-use vectors::field;
+use vectors::fields;
 use vectors::put;
 
 const P21: u64 = 1 << 21;
@@ -36,26 +37,27 @@ pub(crate) fn all() {
     wrapping();
     on_duty();
     changes();
+    no_such_operator();
     order();
     whose();
 }
 
 // So many major frames, all paid to operator 0.
 pub(crate) fn first_paid(n: u64) -> Operators {
-    let p = [n, 0, 0, 0, 0, 0, 0, 0];
-    staff(p, 0)
-}
-
-fn staff(paid: [u64; 8], duty: u64) -> Operators {
     Operators {
-        paid: paid,
-        duty: duty,
+        paid: [n, 0, 0, 0, 0, 0, 0, 0],
+        duty: 0,
     }
 }
 
-fn asked_of(name: &[u8], t: Tally, o: Operators) {
+// Is the tally in order with these paid counts?
+fn asked_paid(name: &[u8], t: Tally, paid: [u64; 8]) {
+    let operators = Operators {
+        paid: paid,
+        duty: 0,
+    };
     let mut u = t;
-    u.operators = o;
+    u.operators = operators;
     asked(name, u);
 }
 
@@ -67,21 +69,21 @@ fn sum_of_one() {
     t.framing.hunted = 3;
     t.framing.good = 128;
     t.runs.majors = 1;
-    asked_of(
+    asked_paid(
         b"one major frame, paid to operator 3",
         t,
-        staff([0u64, 0, 0, 1, 0, 0, 0, 0], 0),
+        [0u64, 0, 0, 1, 0, 0, 0, 0],
     );
-    asked_of(
+    asked_paid(
         b"one major frame, paid to operator 7",
         t,
-        staff([0u64, 0, 0, 0, 0, 0, 0, 1], 0),
+        [0u64, 0, 0, 0, 0, 0, 0, 1],
     );
-    asked_of(b"one major frame, paid to nobody", t, staff([0u64; 8], 0));
-    asked_of(
+    asked_paid(b"one major frame, paid to nobody", t, [0u64; 8]);
+    asked_paid(
         b"one major frame, paid to operators 3 and 7",
         t,
-        staff([0u64, 0, 0, 1, 0, 0, 0, 1], 0),
+        [0u64, 0, 0, 1, 0, 0, 0, 1],
     );
 }
 
@@ -91,50 +93,49 @@ fn sum_of_eight() {
     t.groups.voted = P38;
     t.framing.good = P31;
     t.runs.majors = P24;
-    asked_of(
-        b"2^24 major frames, 2^21 paid to each",
-        t,
-        staff([P21; 8], 0),
-    );
-    asked_of(
+    asked_paid(b"2^24 major frames, 2^21 paid to each", t, [P21; 8]);
+    asked_paid(
         b"2^24 major frames, operator 0 paid one less",
         t,
-        staff([ONE_BELOW_P21, P21, P21, P21, P21, P21, P21, P21], 0),
+        [ONE_BELOW_P21, P21, P21, P21, P21, P21, P21, P21],
     );
-    asked_of(
+    asked_paid(
         b"2^24 major frames, operator 7 paid one more",
         t,
-        staff([P21, P21, P21, P21, P21, P21, P21, ONE_ABOVE_P21], 0),
+        [P21, P21, P21, P21, P21, P21, P21, ONE_ABOVE_P21],
     );
-    asked_of(
+    asked_paid(
         b"2^24 major frames, 2^40 + 1 paid to operator 5",
         t,
-        staff([0u64, 0, 0, 0, 0, ONE_MORE, 0, 0], 0),
+        [0u64, 0, 0, 0, 0, ONE_MORE, 0, 0],
     );
 }
 
 // Paid counts far above the limit, whose sum modulo 2^64 is 0.
 fn wrapping() {
     let t = fresh(1);
-    asked_of(
+    asked_paid(
         b"no major frame, operators 0 and 7 paid 2^63",
         t,
-        staff([P63, 0, 0, 0, 0, 0, 0, P63], 0),
+        [P63, 0, 0, 0, 0, 0, 0, P63],
     );
-    asked_of(b"no major frame, each paid 2^61", t, staff([P61; 8], 0));
-    asked_of(
+    asked_paid(b"no major frame, each paid 2^61", t, [P61; 8]);
+    asked_paid(
         b"no major frame, operator 0 paid 1, operator 7 paid 2^64 - 1",
         t,
-        staff([1u64, 0, 0, 0, 0, 0, 0, LARGEST], 0),
+        [1u64, 0, 0, 0, 0, 0, 0, LARGEST],
     );
 }
 
 fn on_duty() {
     put(b"on duty is 0 to 7\n");
-    let t = fresh(1);
-    asked_of(b"on duty 7", t, staff([0u64; 8], 7));
-    asked_of(b"on duty 8", t, staff([0u64; 8], 8));
-    asked_of(b"on duty 2^64 - 1", t, staff([0u64; 8], LARGEST));
+    let mut t = fresh(1);
+    t.operators.duty = 7;
+    asked(b"on duty 7", t);
+    t.operators.duty = 8;
+    asked(b"on duty 8", t);
+    t.operators.duty = LARGEST;
+    asked(b"on duty 2^64 - 1", t);
 }
 
 // A change of duty, and the line about it.
@@ -144,34 +145,45 @@ fn change(name: &[u8], t: Tally, operator: u64) -> Tally {
     let mut back = next;
     back.operators.duty = t.operators.duty;
     put(name);
-    field(b": refusal ", answer.refusal as u64);
-    field(b" duty ", next.operators.duty);
-    field(b" tally same ", bit(same(t, next)));
-    field(b" but for duty ", bit(same(t, back)));
-    put(b"\n");
+    let numbers = [
+        answer.refusal as u64,
+        next.operators.duty,
+        bit(same(t, next)),
+        bit(same(t, back)),
+    ];
+    fields(
+        b": refusal # duty # tally same # but for duty #\n",
+        &numbers,
+    );
     next
+}
+
+// The same, where nothing follows on it.
+fn changed(name: &[u8], t: Tally, operator: u64) {
+    change(name, t, operator);
 }
 
 fn changes() {
     put(b"a change of duty\n");
     let t = fresh(1);
-    change(b"operator 0", t, 0);
-    change(b"operator 7", t, 7);
-    change(b"operator 8", t, 8);
-    change(b"operator 256", t, 256);
-    change(b"operator 2^32", t, P32);
-    change(b"operator 2^64 - 1", t, LARGEST);
-    let mut full = t;
-    full.groups.bytes = LIMIT;
-    full.groups.fill = LIMIT;
-    change(b"at the limit of bytes, operator 1", full, 1);
+    changed(b"operator 0", t, 0);
+    changed(b"operator 7", t, 7);
+    changed(b"operator 8", t, 8);
+}
+
+fn no_such_operator() {
+    let t = fresh(1);
+    changed(b"operator 256", t, 256);
+    changed(b"operator 2^32", t, P32);
+    changed(b"operator 2^64 - 1", t, LARGEST);
+    changed(b"at the limit of bytes, operator 1", full(), 1);
 }
 
 fn order() {
     let mut t = fresh(1);
     t.framing.matched = 3;
-    change(b"not in order, operator 7", t, 7);
-    change(b"not in order, operator 8", t, 8);
+    changed(b"not in order, operator 7", t, 7);
+    changed(b"not in order, operator 8", t, 8);
 }
 
 // A major frame, all but its last byte.
@@ -192,17 +204,10 @@ fn change_quietly(t: Tally, operator: u64) -> Tally {
 }
 
 fn booked(t: Tally) {
-    let o = t.operators;
-    let p = o.paid;
-    field(b"majors ", t.runs.majors);
-    field(b" paid to ", p[0]);
-    field(b" ", p[1]);
-    field(b" ", p[2]);
-    field(b" ", p[3]);
-    field(b" ", p[4]);
-    field(b" ", p[5]);
-    field(b" ", p[6]);
-    field(b" ", p[7]);
-    field(b" duty ", o.duty);
-    put(b"\n");
+    let paid = t.operators.paid;
+    let majors = [t.runs.majors];
+    let duty = [t.operators.duty];
+    fields(b"majors # paid to", &majors);
+    fields(b" # # # # # # # #", &paid);
+    fields(b" duty #\n", &duty);
 }

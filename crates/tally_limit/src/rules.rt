@@ -4,12 +4,13 @@ use crate::asked;
 use crate::show::grouped;
 use labelling::Tally;
 use vectors::bit;
-use vectors::field;
+use vectors::fields;
 use vectors::put;
 
 pub(crate) fn all() {
     given();
     in_order();
+    out_of_order();
     no_split();
     by_bits();
     locks();
@@ -33,9 +34,8 @@ fn given() {
 fn fresh_by(name: &[u8], rule: u64) {
     let begun = reader::fresh(rule);
     put(name);
-    field(b": refusal ", begun.refusal as u64);
-    field(b" rule ", begun.tally.rule);
-    put(b"\n");
+    let numbers = [begun.refusal as u64, begun.tally.rule];
+    fields(b": refusal # rule #\n", &numbers);
 }
 
 fn in_order() {
@@ -44,6 +44,10 @@ fn in_order() {
     asked(b"rule 1", t);
     t.rule = 2;
     asked(b"rule 2", t);
+}
+
+fn out_of_order() {
+    let mut t = fresh(1);
     t.rule = 0;
     asked(b"rule 0", t);
     t.rule = 3;
@@ -67,12 +71,20 @@ fn no_split() {
 
 fn by_bits() {
     put(b"under rule 2 every group is voted, and three different copies name none\n");
-    let a = grouped(b"16 07 07 07", fresh(2), &[0x16u8, 7, 7, 7]);
-    let b = grouped(b"16 08 07 07", a, &[0x16u8, 8, 7, 7]);
-    let c = grouped(b"16 07 08 07", b, &[0x16u8, 7, 8, 7]);
-    let d = grouped(b"16 07 07 08", c, &[0x16u8, 7, 7, 8]);
-    let e = grouped(b"16 07 08 09", d, &[0x16u8, 7, 8, 9]);
-    grouped(b"16 00 00 FF", e, &[0x16u8, 0, 0, 0xFF]);
+    different(two_agree(fresh(2)));
+}
+
+// Two copies agree or all three do: the weak one is counted.
+pub(crate) fn two_agree(t: Tally) -> Tally {
+    let mut u = grouped(b"16 07 07 07", t, &[0x16u8, 7, 7, 7]);
+    u = grouped(b"16 08 07 07", u, &[0x16u8, 8, 7, 7]);
+    u = grouped(b"16 07 08 07", u, &[0x16u8, 7, 8, 7]);
+    grouped(b"16 07 07 08", u, &[0x16u8, 7, 7, 8])
+}
+
+fn different(t: Tally) {
+    let u = grouped(b"16 07 08 09", t, &[0x16u8, 7, 8, 9]);
+    grouped(b"16 00 00 FF", u, &[0x16u8, 0, 0, 0xFF]);
 }
 
 // A lead-in of which no two copies are equal: FA, F3 and 20, each with one bit of three changed in each copy.
@@ -101,11 +113,16 @@ fn locked(name: &[u8], t: Tally) {
     let answer = reader::take(t, &piece, &mut area);
     let next = answer.tally;
     put(name);
-    field(b": refusal ", answer.refusal as u64);
-    field(b" voted ", next.groups.voted);
-    field(b" split ", next.groups.split);
-    field(b" hunted ", next.framing.hunted);
-    field(b" hunting ", bit(next.framing.hunting));
-    field(b" matched ", next.framing.matched);
-    put(b"\n");
+    let numbers = [
+        answer.refusal as u64,
+        next.groups.voted,
+        next.groups.split,
+        next.framing.hunted,
+        bit(next.framing.hunting),
+        next.framing.matched,
+    ];
+    fields(
+        b": refusal # voted # split # hunted # hunting # matched #\n",
+        &numbers,
+    );
 }

@@ -7,7 +7,7 @@ use labelling::Runs;
 use labelling::Tally;
 use labelling::Weak;
 use vectors::bit;
-use vectors::field;
+use vectors::fields;
 use vectors::put;
 
 // What the area holds before a call.
@@ -24,14 +24,26 @@ pub(crate) fn call(name: &[u8], t: Tally, bytes: usize, room: usize) -> Tally
     let changed = vectors::others(area, BEFORE);
     let next = answer.tally;
     put(name);
-    field(b": refusal ", answer.refusal as u64);
-    field(b" taken ", answer.taken as u64);
-    field(b" complete ", bit(answer.complete));
-    field(b" bytes ", next.groups.bytes);
-    field(b" tally same ", bit(same(t, next)));
-    field(b" area changed ", changed);
-    put(b"\n");
+    let numbers = [
+        answer.refusal as u64,
+        answer.taken as u64,
+        bit(answer.complete),
+        next.groups.bytes,
+        bit(same(t, next)),
+        changed,
+    ];
+    fields(
+        b": refusal # taken # complete # bytes # tally same # area changed #\n",
+        &numbers,
+    );
     next
+}
+
+// The same, where no call follows on it.
+pub(crate) fn shown(name: &[u8], t: Tally, bytes: usize, room: usize)
+    requires { ⌜ (bytes ≤ 4) × (room ≤ 16385) ⌝ }
+{
+    call(name, t, bytes, room);
 }
 
 // A call with these bytes, and the groups counted after it.
@@ -40,20 +52,25 @@ pub(crate) fn grouped(name: &[u8], t: Tally, piece: &[u8]) -> Tally {
     let answer = reader::take(t, piece, &mut area);
     let next = answer.tally;
     put(name);
-    field(b": refusal ", answer.refusal as u64);
-    field(b" taken ", answer.taken as u64);
-    field(b" voted ", next.groups.voted);
-    field(b" split ", next.groups.split);
-    weak_copies(next.groups.weak);
-    field(b" open ", next.groups.open);
-    put(b"\n");
+    let numbers = [answer.refusal as u64, answer.taken as u64];
+    fields(b": refusal # taken #", &numbers);
+    counted(next.groups);
     next
 }
 
-fn weak_copies(w: Weak) {
-    field(b" weak1 ", w.first);
-    field(b" weak2 ", w.second);
-    field(b" weak3 ", w.third);
+fn counted(g: Groups) {
+    let numbers = [
+        g.voted,
+        g.split,
+        g.weak.first,
+        g.weak.second,
+        g.weak.third,
+        g.open,
+    ];
+    fields(
+        b" voted # split # weak1 # weak2 # weak3 # open #\n",
+        &numbers,
+    );
 }
 
 pub(crate) fn same(a: Tally, b: Tally) -> bool {

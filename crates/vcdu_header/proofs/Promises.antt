@@ -1,4 +1,5 @@
--- The promises of the three entries on each of their ways out, from the laws of the code. Assumes nothing.
+-- The promises of the three entries on each of their ways out, from the laws of the code. The entries look a header's ten symbols up in tables, and
+-- `header_code` proves what the tables give of any ten symbols, so that here only the ways out are told apart. Assumes nothing.
 use mathlib.Core.Path.{_≡_, refl, sym, ap, _∙_, subst}
 use mathlib.Core.Bool.{Bool, true, false, cond, not}
 use mathlib.Core.List.{List, [], _∷_, _++_}

@@ -6,6 +6,7 @@ mod sums;
 pub use input::MOST_RECORDS;
 pub use input::filled;
 pub use print::field;
+pub use print::fields;
 pub use print::put;
 pub use print::put_byte;
 pub use print::put_bytes;

@@ -15,6 +15,30 @@ pub fn field(name: &[u8], n: u64) {
     put_number(n);
 }
 
+// Text in which each '#' stands for the next of the numbers.
+pub fn fields(form: &[u8], numbers: &[u64]) {
+    let mut written: usize = 0;
+    let mut i: usize = 0;
+    while i < form.len() {
+        written = put_next(form[i], numbers, written);
+        i += 1;
+    }
+}
+
+// A byte of such a text, before which so many numbers were written; the answer is how many are then.
+fn put_next(b: u8, numbers: &[u64], written: usize) -> usize {
+    if b != b'#' {
+        let text = [b];
+        put(&text);
+        return written;
+    }
+    if written < numbers.len() {
+        put_number(numbers[written]);
+        return written + 1;
+    }
+    written
+}
+
 pub fn put_bytes(bytes: &[u8]) {
     let mut i: usize = 0;
     while i < bytes.len() {

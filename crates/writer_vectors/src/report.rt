@@ -2,9 +2,13 @@
 ghost use Prim.Native.Nat.{_≤_};
 ghost use lib.ListN.{length};
 use crate::reel::Reading;
+use labelling::Framing;
+use labelling::Groups;
+use labelling::Runs;
 use labelling::Tally;
 use vectors::checksum;
 use vectors::field;
+use vectors::fields;
 use vectors::put;
 
 // The longest output that is shown byte by byte.
@@ -12,15 +16,14 @@ const SHORT: usize = 28;
 
 // The answer of a call, and how many bytes it changed.
 pub(crate) fn answered(answer: u8, changed: u64) {
-    field(b": answer ", answer as u64);
-    field(b" changed ", changed);
+    let numbers = [answer as u64, changed];
+    fields(b": answer # changed #", &numbers);
 }
 
 // What a minor frame has at its sync and number places: what decides whether it can be written.
 pub(crate) fn minor_frame(spacing: u64, frame: &[u8], room: usize) {
-    field(b"minor frame spacing ", spacing);
-    field(b" length ", frame.len() as u64);
-    put(b" sync ");
+    let numbers = [spacing, frame.len() as u64];
+    fields(b"minor frame spacing # length # sync ", &numbers);
     byte_at(frame, 0);
     byte_at(frame, 1);
     byte_at(frame, 2);
@@ -58,48 +61,55 @@ pub(crate) fn short_output(space: &[u8], room: usize)
 }
 
 pub(crate) fn written(majors: usize, reel: &[u8]) {
-    field(b"reel of major frames ", majors as u64);
-    field(b" bytes ", reel.len() as u64);
-    field(b" checksum ", checksum(reel));
-    put(b"\n");
+    let numbers = [majors as u64, reel.len() as u64, checksum(reel)];
+    fields(b"reel of major frames # bytes # checksum #\n", &numbers);
 }
 
 pub(crate) fn reading(piece: usize, r: Reading) {
-    field(b"pieces of ", piece as u64);
-    field(b": paid ", r.paid as u64);
-    field(b" compared ", r.compared);
-    field(b" differ ", r.differ);
+    let numbers = [piece as u64, r.paid as u64, r.compared, r.differ];
+    fields(b"pieces of #: paid # compared # differ #", &numbers);
     let t = r.tally;
-    faults(t);
+    faults(t.groups, t.framing, t.runs);
     unfinished(t);
     counts(t);
-    put(b"\n");
 }
 
 // The counts that are 0 for a written reel.
-fn faults(t: Tally) {
-    field(b" stray ", t.groups.stray);
-    field(b" split ", t.groups.split);
-    field(b" weak1 ", t.groups.weak.first);
-    field(b" weak2 ", t.groups.weak.second);
-    field(b" weak3 ", t.groups.weak.third);
-    field(b" damaged ", t.framing.damaged);
-    field(b" unsynced ", t.framing.unsynced);
-    field(b" broken ", t.runs.broken);
-    field(b" loose ", t.runs.loose);
+fn faults(g: Groups, f: Framing, r: Runs) {
+    let numbers = [
+        g.stray,
+        g.split,
+        g.weak.first,
+        g.weak.second,
+        g.weak.third,
+        f.damaged,
+        f.unsynced,
+        r.broken,
+        r.loose,
+    ];
+    fields(
+        b" stray # split # weak1 # weak2 # weak3 # damaged # unsynced # broken # loose #",
+        &numbers,
+    );
 }
 
 fn unfinished(t: Tally) {
-    field(b" hunted ", t.framing.hunted);
-    field(b" building ", t.runs.building);
-    field(b" placed ", t.framing.placed);
-    field(b" open ", t.groups.open);
+    let numbers = [
+        t.framing.hunted,
+        t.runs.building,
+        t.framing.placed,
+        t.groups.open,
+    ];
+    fields(b" hunted # building # placed # open #", &numbers);
 }
 
 fn counts(t: Tally) {
-    field(b" good ", t.framing.good);
-    field(b" majors ", t.runs.majors);
-    field(b" bytes ", t.groups.bytes);
-    field(b" fill ", t.groups.fill);
-    field(b" voted ", t.groups.voted);
+    let numbers = [
+        t.framing.good,
+        t.runs.majors,
+        t.groups.bytes,
+        t.groups.fill,
+        t.groups.voted,
+    ];
+    fields(b" good # majors # bytes # fill # voted #\n", &numbers);
 }

@@ -3,6 +3,7 @@ use mathlib.Core.Path.{sym}
 use Prim.Native.Nat.{ℕ}
 use native.Mathlib.Omega.{arith}
 use lib.ListN.{length-replicate}
+use borrow.Author.Needs.{needs}
 use Rattle.book_compare_vectors.proofs.main.Statement.{statement}
 use Rattle.book_compare_vectors.proofs.main.Tie as tie
 
@@ -12,8 +13,10 @@ main-spec =
     (tie.spec
     (λ first₀ second₀ table₀ left₀ first second table left. Unit {0})
     (λ first₀ second₀ table₀ left₀ first second table left. left)
-    (λ c. sym (length-replicate {A = ℕ} 1065156 0))
-    (λ c. sym (length-replicate {A = ℕ} 1065156 0))
+    (λ c κs. tt)
+    (λ c κs. tt)
+    (λ c. search needs)
+    (λ c. search needs)
     (λ c. sym (length-replicate {A = ℕ} 1536 0))
     (λ c. tt)
     (λ c κs. tt)

@@ -1,22 +1,11 @@
 -- `book_view::cycles_of` meets its contract: it goes through a view (`ToldThrough.antt`) to `cycles`. Assumes nothing.
-use mathlib.Core.Path.{_≡_, ap, _∙_}
-use mathlib.Core.List.{List, [], _∷_}
-use Prim.Native.Nat.{ℕ}
-use mir.Syntax.{w64, tyInt}
-use denote.Builtin.{u64}
-use denote.Plain.{uint-lawful}
-use denote.Ref.{RefT, now}
-use denote.Signature.{plain, Slot}
-use contract.Lifetimes.{Lfts}
 use contract.Running.{givenOf, tables, tablesOf}
 use denote.Triple.Spec.{tripleOf}
 use denote.Triple.Table.{entered, cited}
 use Rattle.book.specs.Parts.{countOf}
-use Rattle.book_view.specs.Held.{heldOf}
-use Rattle.book_view.specs.declared.Book.{Book}
-use Rattle.book_view.proofs.HeldLaws.{now-held}
-use Rattle.book_view.proofs.Through.{Viewed, View}
+use Rattle.book_view.proofs.Through.{View}
 use Rattle.book_view.proofs.ToldThrough.{Handed, meets}
+use Rattle.book_view.proofs.Results.{number-slot, number-type, number-typed, NumberSays, NumberFinal, number-follows}
 use Rattle.book_view.proofs.view.Symbol as view-def
 use Rattle.book_view.proofs.view.Symbol.{name as #view}
 use Rattle.book_view.proofs.view.Met as view-thm
@@ -28,27 +17,14 @@ use Rattle.book_view.proofs.cycles_of as here
 use Rattle.book_view.proofs.cycles_of.Statement as stated
 use Rattle.book_view.proofs.cycles_of.Code as code
 
--- the result's type; what is said of it over a view, and over the slice
-abbrev slot : Slot 1
-slot = plain (λ κs. u64)
-
-abbrev Says : Lfts 1 → RefT (List ℕ) → ℕ → Type 0
-Says κs s r = r ≡ countOf (now s)
-
-abbrev Final : Lfts 1 → RefT (List ℕ) → ℕ → Type 0
-Final κs s r = r ≡ countOf (heldOf (now s))
-
-follows : (κs : Lfts 1) (s : RefT (List ℕ)) (w : Book) (r : ℕ) → Viewed s w → Says κs (w .bytes) r → Final κs s r
-follows κs s w r h e = e ∙ ap countOf (now-held (w .bytes) s h)
-
 pub cycles-of-spec : {M : Type 1} → stated.statement M
 unfolding code.routine tablesOf
 cycles-of-spec 𝓤 H 𝓜 𝓖 𝓡 =
     entered 𝓤 H (tripleOf 𝓤 H (𝓖 .A) here.signature (here.spec 𝓤 H (𝓖 .A) (𝓜 .mem) (𝓡 .run)))
     (tables 𝓤 H 𝓜 𝓡 code.env .C) (tables 𝓤 H 𝓜 𝓡 code.env .Λ) #here code.function (code.unfolded 𝓤 H 𝓜 𝓡)
-    (meets slot (tyInt w64) #view #callee Says Final follows 𝓤 H (𝓖 .A) (givenOf 𝓤 H 𝓜 𝓖)
-    (λ κs r u is. uint-lawful 𝓤 H (𝓖 .A) (givenOf 𝓤 H 𝓜 𝓖) w64 .typed r _ is .0)
+    (meets number-slot number-type #view #callee (NumberSays countOf) (NumberFinal countOf) (number-follows countOf) 𝓤 H (𝓖 .A) (givenOf 𝓤 H 𝓜 𝓖)
+    (number-typed 𝓤 H (𝓖 .A) (givenOf 𝓤 H 𝓜 𝓖))
     (tablesOf 𝓤 H 𝓜 (tables 𝓤 H 𝓜 𝓡 code.env))
     (cited 𝓤 H (View 𝓤 H (𝓖 .A)) 𝓜 𝓡 code.env #view view-def.routine code.calls-book-view·view (view-thm.met 𝓤 H 𝓜 𝓖 𝓡))
-    (cited 𝓤 H (Handed slot (tyInt w64) #view #callee Says Final follows 𝓤 H (𝓖 .A)) 𝓜 𝓡 code.env #callee callee-def.routine code.calls-book-view·cycles
-    (callee-thm.met 𝓤 H 𝓜 𝓖 𝓡)))
+    (cited 𝓤 H (Handed number-slot number-type #view #callee (NumberSays countOf) (NumberFinal countOf) (number-follows countOf) 𝓤 H (𝓖 .A)) 𝓜 𝓡 code.env
+    #callee callee-def.routine code.calls-book-view·cycles (callee-thm.met 𝓤 H 𝓜 𝓖 𝓡)))

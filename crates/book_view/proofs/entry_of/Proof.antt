@@ -1,21 +1,16 @@
 -- `book_view::entry_of` meets its contract: it goes through a view (`Through.antt`) to `entry`. Assumes nothing.
-use mathlib.Core.Path.{_≡_, ap, _∙_}
-use mathlib.Core.List.{List, [], _∷_}
+use mathlib.Core.Path.{_≡_, refl}
+use mathlib.Core.List.{List, []}
 use Prim.Native.Nat.{ℕ}
-use mir.Syntax.{Ty, named, imm, w8, tyInt, tyRef}
-use denote.Builtin.{u8, SliceRefOf}
-use denote.Slice.{sliceTy, shr-slice-lawful}
-use denote.Ref.{RefT, now}
-use denote.Signature.{plain, Slot}
+use denote.Ref.{RefT}
 use contract.Lifetimes.{Lfts}
 use contract.Running.{givenOf, tables, tablesOf}
 use denote.Triple.Spec.{tripleOf}
 use denote.Triple.Table.{entered, cited}
-use Rattle.book.specs.Parts.{IsPart, entryPlace}
-use Rattle.book_view.specs.Held.{heldOf}
+use Rattle.book.specs.Parts.{hasSize, entryPlace, nowhere}
 use Rattle.book_view.specs.declared.Book.{Book}
-use Rattle.book_view.proofs.HeldLaws.{entry-through}
 use Rattle.book_view.proofs.Through.{Viewed, View, Handed, meets}
+use Rattle.book_view.proofs.Results.{part-slot, part-type, part-typed, PartSays, PartFinal, part-follows}
 use Rattle.book_view.proofs.view.Symbol as view-def
 use Rattle.book_view.proofs.view.Symbol.{name as #view}
 use Rattle.book_view.proofs.view.Met as view-thm
@@ -27,30 +22,22 @@ use Rattle.book_view.proofs.entry_of as here
 use Rattle.book_view.proofs.entry_of.Statement as stated
 use Rattle.book_view.proofs.entry_of.Code as code
 
--- the result's type; what is said of it over a view, and over the slice
-abbrev slot : Slot 1
-slot = SliceRefOf (0 ∷ []) tt (plain (λ κs. u8)) (λ κs. tt)
+none : (i : ℕ) → entryPlace [] i ≡ nowhere
+unfolding entryPlace hasSize
+none i = refl
 
-abbrev τ : Ty
-τ = sliceTy (tyRef (named 0) imm (tyInt w8))
-
-abbrev Says : Lfts 1 → RefT (List ℕ) → ℕ → RefT (List ℕ) → Type 0
-Says κs s i r = IsPart r s (entryPlace (now s) i)
-
-abbrev Final : Lfts 1 → RefT (List ℕ) → ℕ → RefT (List ℕ) → Type 0
-Final κs s i r = IsPart r s (entryPlace (heldOf (now s)) i)
-
-follows : (κs : Lfts 1) (s : RefT (List ℕ)) (w : Book) (i : ℕ) (r : RefT (List ℕ)) → Viewed s w → Says κs (w .bytes) i r → Final κs s i r
-follows κs s w i r h e = entry-through i r (w .bytes) s h e
+follows : (κs : Lfts 1) (s : RefT (List ℕ)) (w : Book) (i : ℕ) (r : RefT (List ℕ))
+    → Viewed s w → PartSays entryPlace κs (w .bytes) i r → PartFinal entryPlace κs s i r
+follows = part-follows entryPlace none
 
 pub entry-of-spec : {M : Type 1} → stated.statement M
 unfolding code.routine tablesOf
 entry-of-spec 𝓤 H 𝓜 𝓖 𝓡 =
     entered 𝓤 H (tripleOf 𝓤 H (𝓖 .A) here.signature (here.spec 𝓤 H (𝓖 .A) (𝓜 .mem) (𝓡 .run)))
     (tables 𝓤 H 𝓜 𝓡 code.env .C) (tables 𝓤 H 𝓜 𝓡 code.env .Λ) #here code.function (code.unfolded 𝓤 H 𝓜 𝓡)
-    (meets slot τ #view #callee Says Final follows 𝓤 H (𝓖 .A) (givenOf 𝓤 H 𝓜 𝓖)
-    (λ κs r u is. shr-slice-lawful 𝓤 H (𝓖 .A) (givenOf 𝓤 H 𝓜 𝓖) (named 0) (κs .0) u8 .typed r _ is .0)
+    (meets part-slot part-type #view #callee (PartSays entryPlace) (PartFinal entryPlace) follows 𝓤 H (𝓖 .A) (givenOf 𝓤 H 𝓜 𝓖)
+    (part-typed 𝓤 H (𝓖 .A) (givenOf 𝓤 H 𝓜 𝓖))
     (tablesOf 𝓤 H 𝓜 (tables 𝓤 H 𝓜 𝓡 code.env))
     (cited 𝓤 H (View 𝓤 H (𝓖 .A)) 𝓜 𝓡 code.env #view view-def.routine code.calls-book-view·view (view-thm.met 𝓤 H 𝓜 𝓖 𝓡))
-    (cited 𝓤 H (Handed slot τ #view #callee Says Final follows 𝓤 H (𝓖 .A)) 𝓜 𝓡 code.env #callee callee-def.routine code.calls-book-view·entry
-    (callee-thm.met 𝓤 H 𝓜 𝓖 𝓡)))
+    (cited 𝓤 H (Handed part-slot part-type #view #callee (PartSays entryPlace) (PartFinal entryPlace) follows 𝓤 H (𝓖 .A)) 𝓜 𝓡 code.env
+    #callee callee-def.routine code.calls-book-view·entry (callee-thm.met 𝓤 H 𝓜 𝓖 𝓡)))

@@ -55,7 +55,9 @@ module _ (area : List ℕ) (bits : ℕ) (frame : List ℕ) (slot : ℕ) where
         sum = set-below slot 64 bits small h free;
       }
 
-at-slot : (c : tie.Else3) → let a = measured (c .before .before .before) .args in Ready (now (a .area)) (a .bits) (now (a .frame)) (c .before .lowest-free .result)
+at-slot : (c : tie.Else3)
+    → let a = measured (c .before .before .before) .args in
+    Ready (now (a .area)) (a .bits) (now (a .frame)) (c .before .lowest-free .result)
 at-slot c =
     let passed = c .before .before in
     let a = measured (passed .before) .args in

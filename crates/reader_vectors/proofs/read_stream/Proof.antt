@@ -57,11 +57,14 @@ returns c = tt
 
 loop-less : tie.Need-loop-less Inv-loop μ-loop
 loop-less c =
-    let w = after-step (c .before .before .before .before .before) in
+    let answered = c .before .before in
+    let w = after-step (answered .before .before .before) in
     omega (arith, w .step .ensures .onward (c .if1 .left) (turn w .loop-test .taken))
 
 loop-again : tie.Need-loop-again Inv-loop μ-loop
-loop-again c = report-kept (c .before .before .before .before .before)
+loop-again c =
+    let answered = c .before .before in
+    report-kept (answered .before .before .before)
 
 same-length-2 : tie.Need-same-length-2 Inv-loop μ-loop
 same-length-2 c =

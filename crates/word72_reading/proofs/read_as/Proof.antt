@@ -12,14 +12,18 @@ use Rattle.word72_reading.proofs.Bytes.{wrong-length, out-of-span, in-f
 use Rattle.word72_reading.proofs.read_as.Statement.{statement}
 use Rattle.word72_reading.proofs.read_as.Tie as tie
 
+-- what the call is handed, from where the length suits
+abbrev handed : tie.Else1 → tie.Start
+handed c = c .before .before .before
+
 -- past the first test the length suits the form, and past the second the year is in the span
-suiting : (c : tie.Else1) → let a = c .before .before .before .args in suits (a .form) (length (now (a .bytes))) ≡ true
+suiting : (c : tie.Else1) → let a = handed c .args in suits (a .form) (length (now (a .bytes))) ≡ true
 suiting c = sym (c .before .length-suits .ensures) ∙ not-false _ (c .if1 .left)
 
-spanned : (c : tie.Else2) → inSpan (c .before .before .before .before .before .args .year) ≡ true
+spanned : (c : tie.Else2) → inSpan (handed (c .before .before) .args .year) ≡ true
 spanned c = sym (c .before .in-span .ensures) ∙ not-false _ (c .if2 .left)
 
-suits-so : (c : tie.Else1) → let a = c .before .before .before .args in T (suits (a .form) (length (now (a .bytes))))
+suits-so : (c : tie.Else1) → let a = handed c .args in T (suits (a .form) (length (now (a .bytes))))
 suits-so c = rw (suiting c) tt
 
 length-suits-requires : tie.Need-length-suits-requires

@@ -12,6 +12,17 @@ Inv-loop reel frames piece area₀ r₀ at₀ area r at = length area ≡ length
 abbrev μ-loop : tie.MeasureT-loop
 μ-loop reel frames piece area₀ r₀ at₀ area r at = length reel - at
 
+-- the step whose answer was looked at: the area came back, and its answer was copied
+abbrev stepped : tie.After-answered Inv-loop μ-loop → tie.After-step Inv-loop μ-loop
+stepped answered =
+    let copied = answered .before .before in
+    let returned = copied .before .before in
+    returned .before
+
+-- the turn that it was made in
+abbrev turn : tie.After-step Inv-loop μ-loop → tie.In-loop Inv-loop μ-loop
+turn step = step .before .before .before
+
 fresh-requires : tie.Need-fresh-requires Inv-loop μ-loop
 fresh-requires c κs = tt
 
@@ -26,24 +37,21 @@ answered-requires c κs = tt
 
 same-length : tie.Need-same-length Inv-loop μ-loop
 same-length c =
-    let answered = c .before .before in
-    let w = answered .before .before .before .before .before in
-    w .step .kept .1 .1 .1 .1 .0 ∙ w .before .before .before .before .loop .inv
+    let w = stepped (c .before .before) in
+    w .step .kept .1 .1 .1 .1 .0 ∙ turn w .before .loop .inv
 
 returns : tie.Need-returns Inv-loop μ-loop
 returns c = tt
 
 loop-less : tie.Need-loop-less Inv-loop μ-loop
 loop-less c =
-    let answered = c .before .before in
-    let w = answered .before .before .before .before .before in
-    omega (arith, w .step .ensures .onward (c .if1 .left) (w .before .before .before .loop-test .taken))
+    let w = stepped (c .before .before) in
+    omega (arith, w .step .ensures .onward (c .if1 .left) (turn w .loop-test .taken))
 
 loop-again : tie.Need-loop-again Inv-loop μ-loop
 loop-again c =
-    let answered = c .before .before in
-    let w = answered .before .before .before .before .before in
-    w .step .kept .1 .1 .1 .1 .0 ∙ w .before .before .before .before .loop .inv
+    let w = stepped (c .before .before) in
+    w .step .kept .1 .1 .1 .1 .0 ∙ turn w .before .loop .inv
 
 same-length-2 : tie.Need-same-length-2 Inv-loop μ-loop
 same-length-2 c = c .before .loop .inv

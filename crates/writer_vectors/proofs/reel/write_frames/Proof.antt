@@ -15,13 +15,23 @@ abbrev μ-loop : tie.MeasureT-loop
 
 -- after a call: what it wrote ends within the room
 module _ (c : tie.After-slice-known2 Inv-loop μ-loop) where
-  abbrev turn : tie.In-loop Inv-loop μ-loop
-  turn = c .before .before .before .before .before .before
+  abbrev called : tie.After-write-frame Inv-loop μ-loop
+  called = c .before .before
 
-  within : turn .before .loop .at + c .before .before .write-frame .result ≤ length (turn .before .loop .room)
+  abbrev turn : tie.In-loop Inv-loop μ-loop
+  turn =
+      let parts-lent = called .before in
+      parts-lent .before .before .before
+
+  abbrev handed : tie.Start Inv-loop μ-loop
+  handed =
+      let first = turn .before in
+      first .before .before .before .before
+
+  within : turn .before .loop .at + called .write-frame .result ≤ length (turn .before .loop .room)
   within =
       let k = turn .before .loop in
-      let call = c .before .before .write-frame in
+      let call = called .write-frame in
       omega (arith, mid-len (k .at) (length (k .room)) (k .room) (omega arith), call .kept .1 .1 .0, call .ensures, k .inv .0)
 
 loop-holds : tie.Need-loop-holds Inv-loop μ-loop
@@ -58,7 +68,7 @@ write-frame-requires : tie.Need-write-frame-requires Inv-loop μ-loop
 write-frame-requires c κs = tt
 
 add-at : tie.Need-add-at Inv-loop μ-loop
-add-at c = omega (arith, within c, turn c .before .before .before .before .before .good .1 .1 .1 .0 .0, turn c .before .loop .inv .2)
+add-at c = omega (arith, within c, handed c .good .1 .1 .1 .0 .0, turn c .before .loop .inv .2)
 
 add-i : tie.Need-add-i Inv-loop μ-loop
 add-i c = omega arith

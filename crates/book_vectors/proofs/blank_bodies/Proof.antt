@@ -1,0 +1,12 @@
+-- `book_vectors::blank_bodies` meets its contract: as many zeros as were asked for, by a law and not by counting. Assumes nothing.
+use mathlib.Core.Path.{sym}
+use Prim.Native.Nat.{ℕ}
+use lib.ListN.{length-replicate}
+use Rattle.book_vectors.proofs.blank_bodies.Statement.{statement}
+use Rattle.book_vectors.proofs.blank_bodies.Tie as tie
+
+returns : tie.Need-returns
+returns c = sym (length-replicate {0} {A = ℕ} 2097280 0)
+
+pub blank-bodies-spec : {M : Type 1} → statement M
+blank-bodies-spec = tie.close (tie.spec returns)
