@@ -94,6 +94,7 @@ module _ {c : TakeCall} {r : Taken} {a : List ℕ} (p : PartPromise true c r a) 
       go (suc n) e =
           let none : locked ≡ false = k ∙ rw (unmoved e) (not-at-once (c .tally .framing)) in
           record {
+            refusal-is = p .refused n e .refusal-is;
             refused = p .refused;
             accepted = p .accepted;
             locked-is = rw (unmoved e, none) (omega arith);
@@ -107,6 +108,7 @@ module _ {c : TakeCall} {r : Taken} {a : List ℕ} (p : PartPromise true c r a) 
           let taken : r .taken ≡ read .taken = ap (λ (x : Answer). x .taken) (moved e) in
           let told : locked ≡ lockedBy (c .tally .framing) (read .state .framing) = k ∙ rw layer in
           record {
+            refusal-is = p .accepted e .refusal-is ∙ part-accepted c e ∙ sym e;
             refused = p .refused;
             accepted = p .accepted;
             locked-is = rw (layer, told) (q .count);

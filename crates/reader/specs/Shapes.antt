@@ -62,6 +62,7 @@ lockedBy before after = not (after .hunting) && (before .hunting || not (eqb (af
 -- `take_to_lock` of the call c answers r and leaves the area: it is refused as the whole piece is, and else it is `take` of the part of the piece as
 -- far as the byte that ends a hunt
 pub record LockPromise (c : TakeCall) (r : Locked) (area : List ℕ) : Type 0 where
+  pub refusal-is : r .taken .refusal ≡ takeRefusal c
   pub refused : (n : ℕ) → takeRefusal c ≡ suc n → TakePromise c (r .taken) area
   pub accepted : takeRefusal c ≡ 0 → TakePromise (toLock c) (r .taken) area
   -- whether a hunt has ended: of the hunts that have ended there is one more, or none
