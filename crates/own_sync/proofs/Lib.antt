@@ -1,3 +1,4 @@
 pub mod Locks
 pub mod OwnCuts
 pub mod OwnHunt
+pub mod Beside
