@@ -2,3 +2,5 @@ pub mod Locks
 pub mod OwnCuts
 pub mod OwnHunt
 pub mod Beside
+pub mod OpenGroup
+pub mod Along
