@@ -110,6 +110,8 @@ module _ (vote : Vote) (a₀ : List ℕ) where
       -- what may come after it; where a major frame is complete, the stage is settled
       pub still-ahead : lock ≡ false → Ahead stage (comes (now .state) ys)
       pub quiet : now .complete ≡ true → Settled stage
+      -- only a word stops the call
+      pub without-word : noWord (comes t (b ∷ [])) ≡ true → (lock ≡ false) × (now .complete ≡ false)
       pub more-words : (ys : List ℕ) → comes t (b ∷ ys) ≡ comes t (b ∷ []) ++ comes (now .state) ys
 
     abbrev event : ByteEvent
@@ -166,6 +168,7 @@ module _ (vote : Vote) (a₀ : List ℕ) where
           at-lock-is = rw (comes-one, e) (sym (and-true (isAtLock s)));
           still-ahead = λ _. rw (comes-more ys, e) at h;
           quiet = λ c. absurd (true≢false (sym c ∙ not-complete));
+          without-word = λ _. (refl, not-complete);
           more-words = more-words;
         }
           where
@@ -191,6 +194,7 @@ module _ (vote : Vote) (a₀ : List ℕ) where
           at-lock-is = next .lock-is ∙ rw (comes-one, e, and-false) (sym (or-false lock));
           still-ahead = λ z. ahead-free (next .stage) (next .settled) (next .lock-is ∙ z) _;
           quiet = λ c. next .settled;
+          without-word = λ z. absurd (true≢false (sym z ∙ rw (comes-one, e)));
           more-words = more-words;
         }
           where
@@ -212,61 +216,64 @@ module _ (vote : Vote) (a₀ : List ℕ) where
 
   -- ---- a call as far as a lock
 
-  -- after js and bs, of the piece p′ the answer r has taken what it should; s was the stage before, and t the state
-  pub record Part (t : State) (js bs : List ℕ) (s : Stage) (n : ℕ) (piece : List ℕ) (r : Progress) : Type 0 where
+  -- after js and bs, of the part of a piece that the call is for the answer r has taken what it should; s was the stage before, and t the state
+  pub record Part (t : State) (js bs : List ℕ) (s : Stage) (n : ℕ) (piece part : List ℕ) (r : Progress) : Type 0 where
     pub stage : Stage
     pub rest : List Word
-    pub along : Along (r .state) (r .area) (js ++ take (r .taken) piece) (bs ++ take (r .taken) piece) stage rest n
+    pub along : Along (r .state) (r .area) (js ++ take (r .taken) part) (bs ++ take (r .taken) part) stage rest n
     pub settled : Settled stage
     pub lock : Bool
     pub count : lockCount (r .state .framing) ≡ lockCount (t .framing) + one lock
-    pub at-lock-is : isAtLock stage ≡ (lock || (isAtLock s && noWord (comes t (take (r .taken) piece))))
-
-  -- one byte, where the call stops
-  part-one : (t : State) (a js bs : List ℕ) (s : Stage) (p : List Word) (n b : ℕ) (rest ys : List ℕ) (c : Bool) (i : Along t a js bs s p n)
-      → (o : Onward t a js bs s p n b i ys) → Settled (o .stage)
-      → let m = byteStep vote t a b in Part t js bs s n (b ∷ rest) (record { state = m .state; area = m .area; taken = 1; complete = c })
-  part-one t a js bs s p n b rest ys c i o settled = record {
-    stage = o .stage;
-    rest = o .rest;
-    along = o .along;
-    settled = settled;
-    lock = o .lock;
-    count = locks-byte vote t a b ∙ rw (o .lock-is);
-    at-lock-is = o .at-lock-is;
-  }
+    pub at-lock-is : isAtLock stage ≡ (lock || (isAtLock s && noWord (comes t piece)))
 
   no-word-both : (l m : List Word) → noWord (l ++ m) ≡ (noWord l && noWord m)
   no-word-both [] m = refl
   no-word-both (w ∷ l) m = refl
 
-  -- one byte, and then the rest
-  part-more : (t : State) (a js bs : List ℕ) (s : Stage) (p : List Word) (n b : ℕ) (piece ys : List ℕ) (r : Progress) (i : Along t a js bs s p n)
-      → (o : Onward t a js bs s p n b i ys) → o .lock ≡ false
-      → Part (byteStep vote t a b .state) (js ++ b ∷ []) (bs ++ b ∷ []) (o .stage) n piece r → Part t js bs s n (b ∷ piece) (andOne r)
-  part-more t a js bs s p n b piece ys r i o z q = record {
-    stage = q .stage;
-    rest = q .rest;
-    along = rw (add-one, ← append-assoc js (b ∷ []) (take (r .taken) piece), ← append-assoc bs (b ∷ []) (take (r .taken) piece)) (q .along);
-    settled = q .settled;
-    lock = q .lock;
-    count = omega (arith, q .count, locks-byte vote t a b, ap one (o .lock-is ∙ z));
-    at-lock-is = rw add-one (q .at-lock-is ∙ ap (λ (x : Bool). q .lock || x) same);
-  }
-    where
-      taken : List ℕ
-      taken = take (r .taken) piece
+  module _ (t : State) (a js bs : List ℕ) (s : Stage) (p : List Word) (n b : ℕ) (ys : List ℕ) (i : Along t a js bs s p n)
+      (o : Onward t a js bs s p n b i ys) where
+    abbrev after : State
+    after = byteStep vote t a b .state
 
-      same : (isAtLock (o .stage) && noWord (comes (byteStep vote t a b .state) taken)) ≡ (isAtLock s && noWord (comes t (b ∷ taken)))
-      same =
-          let was : isAtLock (o .stage) ≡ (isAtLock s && noWord (comes t (b ∷ []))) = o .at-lock-is ∙ rw z in
-          ap (λ (x : Bool). x && noWord (comes (byteStep vote t a b .state) taken)) was
-          ∙ and-assoc (isAtLock s) (noWord (comes t (b ∷ []))) (noWord (comes (byteStep vote t a b .state) taken))
-          ∙ ap (λ (x : Bool). isAtLock s && x)
-          (sym (no-word-both (comes t (b ∷ [])) (comes (byteStep vote t a b .state) taken)) ∙ ap noWord (sym (o .more-words taken)))
+    -- whether the bytes ys and the byte before them give no word
+    no-word-more : noWord (comes t (b ∷ ys)) ≡ (noWord (comes t (b ∷ [])) && noWord (comes after ys))
+    no-word-more = ap noWord (o .more-words ys) ∙ no-word-both (comes t (b ∷ [])) (comes after ys)
+
+    -- one byte, where the call stops
+    part-one : (rest : List ℕ) (c : Bool) → noWord (comes t (b ∷ [])) ≡ false → Settled (o .stage)
+        → let m = byteStep vote t a b in Part t js bs s n (b ∷ ys) (b ∷ rest) (record { state = m .state; area = m .area; taken = 1; complete = c })
+    part-one rest c met settled = record {
+      stage = o .stage;
+      rest = o .rest;
+      along = o .along;
+      settled = settled;
+      lock = o .lock;
+      count = locks-byte vote t a b ∙ rw (o .lock-is);
+      at-lock-is = rw (no-word-more, met) (rw met at (o .at-lock-is));
+    }
+
+    -- one byte, and then the rest
+    part-more : (part : List ℕ) (r : Progress) → o .lock ≡ false → Part after (js ++ b ∷ []) (bs ++ b ∷ []) (o .stage) n ys part r
+        → Part t js bs s n (b ∷ ys) (b ∷ part) (andOne r)
+    part-more part r z q = record {
+      stage = q .stage;
+      rest = q .rest;
+      along = rw (add-one, ← append-assoc js (b ∷ []) (take (r .taken) part), ← append-assoc bs (b ∷ []) (take (r .taken) part)) (q .along);
+      settled = q .settled;
+      lock = q .lock;
+      count = omega (arith, q .count, locks-byte vote t a b, ap one (o .lock-is ∙ z));
+      at-lock-is = q .at-lock-is ∙ ap (λ (x : Bool). q .lock || x) same;
+    }
+      where
+        same : (isAtLock (o .stage) && noWord (comes after ys)) ≡ (isAtLock s && noWord (comes t (b ∷ ys)))
+        same =
+            let was : isAtLock (o .stage) ≡ (isAtLock s && noWord (comes t (b ∷ []))) = o .at-lock-is ∙ rw z in
+            ap (λ (x : Bool). x && noWord (comes after ys)) was
+            ∙ and-assoc (isAtLock s) (noWord (comes t (b ∷ []))) (noWord (comes after ys))
+            ∙ ap (λ (x : Bool). isAtLock s && x) (sym no-word-more)
 
   abbrev FedPart : List ℕ → State → List ℕ → List ℕ → List ℕ → Stage → ℕ → Type 0
-  FedPart piece t a js bs s n = Part t js bs s n (upTo vote true t a piece) (feed vote t a (upTo vote true t a piece))
+  FedPart piece t a js bs s n = Part t js bs s n piece (upTo vote true t a piece) (feed vote t a (upTo vote true t a piece))
 
   pub fed-part : (piece : List ℕ) (t : State) (a js bs : List ℕ) (s : Stage) (p : List Word) (n : ℕ) → Along t a js bs s p n → Ahead s (comes t piece)
       → FedPart piece t a js bs s n
@@ -279,7 +286,7 @@ module _ (vote : Vote) (a₀ : List ℕ) where
     count = omega arith;
     at-lock-is = rw (none-ahead vote (t .groups) (few-open i)) (sym (and-true (isAtLock s)));
   }
-  fed-part (b ∷ piece) t a js bs s p n i h = go (m .complete) refl (o .lock) refl (fed-part piece)
+  fed-part (b ∷ piece) t a js bs s p n i h = go (m .complete) refl (o .lock) refl (noWord (comes t (b ∷ []))) refl (fed-part piece)
     where
       m : Now
       m = byteStep vote t a b
@@ -296,17 +303,19 @@ module _ (vote : Vote) (a₀ : List ℕ) where
       at-a-lock at-lock c d e = tt
       at-a-lock led-in c d e = true≢false (sym e)
 
-      go : (c : Bool) → m .complete ≡ c → (l : Bool) → o .lock ≡ l
+      go : (c : Bool) → m .complete ≡ c → (l : Bool) → o .lock ≡ l → (q : Bool) → noWord (comes t (b ∷ [])) ≡ q
           → ((t : State) (a js bs : List ℕ) (s : Stage) (p : List Word) (n : ℕ) → Along t a js bs s p n → Ahead s (comes t piece) → FedPart piece t a js bs s n)
           → FedPart (b ∷ piece) t a js bs s n
-      go true e true l ih =
-          rw (up-stop vote true t a b piece (o .lock-is ∙ l), feed-complete vote t a b [] e) (part-one t a js bs s p n b [] piece true i o (o .quiet e))
-      go true e false l ih =
-          rw (up-on vote true t a b piece (o .lock-is ∙ l), feed-complete vote t a b more e) (part-one t a js bs s p n b more piece true i o (o .quiet e))
-      go false e true l ih =
+      go true e l z true q ih = absurd (true≢false (sym e ∙ o .without-word q .1))
+      go true e true l false q ih =
+          rw (up-stop vote true t a b piece (o .lock-is ∙ l), feed-complete vote t a b [] e) (part-one t a js bs s p n b piece i o [] true q (o .quiet e))
+      go true e false l false q ih =
+          rw (up-on vote true t a b piece (o .lock-is ∙ l), feed-complete vote t a b more e) (part-one t a js bs s p n b piece i o more true q (o .quiet e))
+      go false e true l true q ih = absurd (true≢false (sym l ∙ o .without-word q .0))
+      go false e true l false q ih =
           let settled = at-a-lock (o .stage) (isAtLock s) (noWord (comes t (b ∷ []))) (o .at-lock-is ∙ rw l) in
-          rw (up-stop vote true t a b piece (o .lock-is ∙ l), feed-more vote t a b [] e) (part-one t a js bs s p n b [] piece false i o settled)
-      go false e false l ih =
+          rw (up-stop vote true t a b piece (o .lock-is ∙ l), feed-more vote t a b [] e) (part-one t a js bs s p n b piece i o [] false q settled)
+      go false e false l q z ih =
           rw (up-on vote true t a b piece (o .lock-is ∙ l), feed-more vote t a b more e)
-          (part-more t a js bs s p n b more piece _ i o l
+          (part-more t a js bs s p n b piece i o more _ l
           (ih (m .state) (m .area) (js ++ b ∷ []) (bs ++ b ∷ []) (o .stage) (o .rest) n (o .along) (o .still-ahead l)))
