@@ -4,3 +4,4 @@ pub mod OwnHunt
 pub mod Beside
 pub mod OpenGroup
 pub mod Along
+pub mod Relocking
