@@ -14,6 +14,7 @@ mod disorder;
 mod entry;
 mod frame_store;
 mod items;
+mod lock;
 mod lookup;
 mod nominal;
 mod plain;
@@ -87,6 +88,7 @@ struct Seen {
     paid_to: [u64; OPERATORS],
     ended_in: [u64; 17],
     changed: copy_errors::Met,
+    to_lock: lock::Met,
     word72: items::Met,
     books: book::Met,
     comparisons: book_compare::Met,
@@ -148,6 +150,7 @@ impl Seen {
             ("major frames paid to operator", paid_to),
             ("streams that ended with some", streams),
             ("copies changed", self.changed.cases()),
+            ("calls to a lock", self.to_lock.cases()),
             ("word 72", self.word72.cases()),
             ("books", self.books.cases()),
             ("books compared", self.comparisons.cases()),
@@ -213,6 +216,7 @@ impl Trial {
         alike::trial(&mut self.r, &self.bytes, &self.start, longest)?;
         for rule in [BY_BYTES, BY_BITS] {
             copy_errors::trial(&mut self.r, &self.bytes, &self.start, rule, longest, &mut seen.changed)?;
+            lock::trial(&mut self.r, &self.bytes, &self.start, rule, longest, &mut seen.to_lock)?;
         }
         writer::trials(&mut self.r)?;
         lookup::trials(&mut self.r)?;
