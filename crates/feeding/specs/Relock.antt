@@ -27,7 +27,7 @@ standsAtLock t = not (t .framing .hunting) && eqb (t .framing .placed) 0 && eqb 
 
 -- the tally is in order, a lock that awaits its word is one, and the tally's bytes have room for the lead-ins
 unfoldable pub feederInOrder : Feeder → Bool
-feederInOrder f = inOrder (f .tally) && (not (f .awaits) || standsAtLock (f .tally)) && leb (f .lead-ins) (f .tally .groups .bytes / 12)
+feederInOrder f = inOrder (f .tally) && (not (f .awaits) || standsAtLock (f .tally)) && leb (f .handed) (f .tally .groups .bytes / 12)
 
 -- the lengths of the piece and of the area; after the whole piece a lead-in must still fit into 2^40
 unfoldable pub relockRefusal : Feeder → ℕ → ℕ → ℕ
@@ -69,7 +69,7 @@ move f piece ends = cond (f .awaits) (decision (ruleVote (f .tally .rule)) (befo
 abbrev pub called : TakeCall → Bool → ℕ → Relocked
 called c awaits n =
     let a = answer (toLock c) in
-    record { refusal = 0; taken = a .taken; complete = a .complete; more = false; feeder = record { tally = a .tally; awaits = awaits; lead-ins = n } }
+    record { refusal = 0; taken = a .taken; complete = a .complete; more = false; feeder = record { tally = a .tally; awaits = awaits; handed = n } }
 
 -- the call of a step on k bytes of the piece
 abbrev pub callOn : Feeder → List ℕ → ℕ → List ℕ → TakeCall
@@ -81,9 +81,9 @@ callLed f piece area = afterLeadIn (callOf (f .tally) piece area)
 
 -- an accepted step, by its move, from the area `old`
 abbrev pub moved : Move → Feeder → List ℕ → List ℕ → Relocked
-moved (reads k) f piece old = let c = callOn f piece k old in called c (awaitsAfter (f .awaits) c) (f .lead-ins)
+moved (reads k) f piece old = let c = callOn f piece k old in called c (awaitsAfter (f .awaits) c) (f .handed)
 moved asks f piece old = record { refusal = 0; taken = 0; complete = false; more = true; feeder = f }
-moved leads f piece old = let d = callLed f piece old in called d (locked d) (f .lead-ins + 1)
+moved leads f piece old = let d = callLed f piece old in called d (locked d) (f .handed + 1)
 
 -- the area that it leaves
 abbrev pub areaMoved : Move → Feeder → List ℕ → List ℕ → List ℕ
@@ -129,9 +129,9 @@ pub record Called (c : TakeCall) (awaits : Bool) (n : ℕ) (r : Relocked) (new :
 
 -- a call on a part of the piece; `waits` says that the lock before it goes on waiting
 abbrev pub ReadsOn : Feeder → List ℕ → Bool → List ℕ → Relocked → List ℕ → Type 0
-ReadsOn f part waits old r new = let c = callOf (f .tally) part old in Called c (waits || locked c) (f .lead-ins) r new
+ReadsOn f part waits old r new = let c = callOf (f .tally) part old in Called c (waits || locked c) (f .handed) r new
 
 -- the lead-in, and a call on the piece
 pub record LeadsIn (f : Feeder) (piece old : List ℕ) (r : Relocked) (new : List ℕ) : Type 0 where
   pub lead-accepted : takeRefusal (leadIn (callOf (f .tally) piece old)) ≡ 0
-  pub led : Called (callLed f piece old) (locked (callLed f piece old)) (f .lead-ins + 1) r new
+  pub led : Called (callLed f piece old) (locked (callLed f piece old)) (f .handed + 1) r new

@@ -28,7 +28,7 @@ pub struct Feeder {
     // Whether a lock awaits its next word.
     pub awaits: bool,
     // How many lead-ins were handed: the tally's bytes are those of the reel, and twelve for each.
-    pub lead_ins: u64,
+    pub handed: u64,
 }
 
 // The answer of a step.
@@ -90,7 +90,7 @@ fn in_order(f: Feeder) -> bool
 {
     let t = f.tally;
     let at_lock = !t.framing.hunting & (t.framing.placed == 0) & (t.groups.open == 0);
-    reader::in_order(t) & (!f.awaits | at_lock) & (f.lead_ins <= t.groups.bytes / LEAD_IN)
+    reader::in_order(t) & (!f.awaits | at_lock) & (f.handed <= t.groups.bytes / LEAD_IN)
 }
 
 fn refused(f: Feeder, number: u8) -> Relocked
@@ -148,10 +148,12 @@ fn begins_frame(rule: u64, a: u8, b: u8, c: u8) -> bool
 {
     if rule == 2 {
         let by_bits = reader::vote_bits(a, b, c);
-        return is_first(by_bits.word);
+        let word = by_bits.word;
+        return is_first(word);
     }
     let by_bytes = reader::vote(a, b, c);
-    is_first(by_bytes.word)
+    let word = by_bytes.word;
+    is_first(word)
 }
 
 fn is_first(w: Word) -> bool
@@ -175,7 +177,7 @@ fn read_on(f: Feeder, part: &[u8], waits: bool, area: &mut [u8]) -> Relocked
     let next = Feeder {
         tally: left,
         awaits: waits | r.locked,
-        lead_ins: f.lead_ins,
+        handed: f.handed,
     };
     Relocked {
         refusal: 0,
@@ -200,7 +202,7 @@ fn lead_in(f: Feeder, piece: &[u8], area: &mut [u8]) -> Relocked
     let next = Feeder {
         tally: left,
         awaits: r.locked,
-        lead_ins: f.lead_ins + 1,
+        handed: f.handed + 1,
     };
     Relocked {
         refusal: 0,

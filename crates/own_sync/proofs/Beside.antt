@@ -447,3 +447,34 @@ unfolding frames pieces
 few-close-none u h b =
     concatMap-now frameOf (residual-keep u (b .handed-cut))
     ∙ rw (frame-open u h, concatMap-ifAny frameOf part u refl, append-nil) (sym (frames-now b))
+
+-- ---- any words
+
+-- the words ws beside those that are handed in for them
+pub record Reached (ws : List Word) : Type 0 where
+  pub stage : Stage
+  pub rest : List Word
+  pub vs : List Word
+  pub count : ℕ
+  pub beside : Beside stage rest vs ws count
+  pub settled : Settled stage
+
+pub reached : (ws : List Word) → Reached ws
+reached ws = go [] ws record { stage = in-hunt; rest = []; vs = []; count = 0; beside = beside-start; settled = tt }
+  where
+    after-next : {s : Stage} {vs ws : List Word} {n : ℕ} (w : Word) → Next s vs ws n w → Reached (ws ++ w ∷ [])
+    after-next {vs = vs} {n = n} w x = record { stage = x .stage; rest = x .rest; vs = vs ++ w ∷ []; count = n; beside = x .beside; settled = x .settled }
+
+    at-a-lock : {p vs ws : List Word} {n : ℕ} (w : Word) (b : Bool) → isWord 0xfa w ≡ b → Beside at-lock p vs ws n → Reached (ws ++ w ∷ [])
+    at-a-lock w true e b = after-next w (next-word at-lock w e b)
+    at-a-lock w false e b = after-next w (next-word led-in w e (led b))
+
+    one-more : (s : Stage) {p vs ws : List Word} {n : ℕ} (w : Word) → Settled s → Beside s p vs ws n → Reached (ws ++ w ∷ [])
+    one-more in-hunt w k b = after-next w (next-word in-hunt w tt b)
+    one-more (in-frame found) w k b = after-next w (next-word (in-frame found) w tt b)
+    one-more at-lock w k b = at-a-lock w (isWord 0xfa w) refl b
+    one-more led-in w k b = absurd k
+
+    go : (done rest : List Word) → Reached done → Reached (done ++ rest)
+    go done [] r = rw (append-nil done) r
+    go done (w ∷ rest) r = rw append-assoc at (go (done ++ w ∷ []) rest (one-more (r .stage) w (r .settled) (r .beside)))

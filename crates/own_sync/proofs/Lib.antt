@@ -5,3 +5,4 @@ pub mod Beside
 pub mod OpenGroup
 pub mod Along
 pub mod Relocking
+pub mod Recovery

@@ -16,7 +16,7 @@ use Rattle.own_sync.specs.OwnCut.{beforeSync}
 use Rattle.own_sync.proofs.OwnCuts.{sync}
 
 -- the clauses of the two counts
-before-none : (w : Word) (ws : List Word) → synced (w ∷ ws) ≡ true → beforeSync (w ∷ ws) ≡ 0
+pub before-none : (w : Word) (ws : List Word) → synced (w ∷ ws) ≡ true → beforeSync (w ∷ ws) ≡ 0
 before-none w ws e = rw (e, beforeSync)
 
 pub before-more : (w : Word) (ws : List Word) → synced (w ∷ ws) ≡ false → beforeSync (w ∷ ws) ≡ suc (beforeSync ws)
@@ -34,7 +34,7 @@ and-none true true = refl
 and-none true false = refl
 and-none false b = refl
 
-one-short : (x : Word) → synced (x ∷ []) ≡ false
+pub one-short : (x : Word) → synced (x ∷ []) ≡ false
 unfolding synced
 one-short x = and-none (isWord 0xfa x) false
 

@@ -2,7 +2,7 @@
 -- nothing, and one that names an operator nothing of the state. Assumes nothing.
 use mathlib.Core.Path.{_≡_, refl, sym, ap, ap₂, _∙_}
 use mathlib.Core.Bool.{Bool, true, false, _&&_, _||_, true≢false, or-false}
-use mathlib.Core.List.{List, [], _∷_, _++_, append-assoc, append-nil}
+use mathlib.Core.List.{List, [], _∷_, _++_, append-assoc, append-nil, map-append}
 use Prim.Native.Nat.{ℕ, zero, suc, _+_, _*_, _≤_, _<_}
 use native.Mathlib.Nat.{add-zero, zero-add, add-suc, suc-add}
 use native.Mathlib.Omega.{arith}
@@ -11,13 +11,14 @@ use lib.ListN.{length, take, length-append}
 use lib.Seq.{take-all, length-take-le}
 use borrow.Author.Tests.{lt-ltb, le-ltb}
 use Rattle.base.specs.Format.{SYNC}
-use Rattle.base.specs.Lists.{one}
+use Rattle.base.specs.Lists.{concatMap, one}
 use Rattle.labelling.specs.declared.Tally.{Tally}
 use Rattle.labelling.specs.declared.Word.{Word}
 use Rattle.labelling.specs.declared.Word.the-variants.{Voted}
 use Rattle.labelling.specs.Words.{outside, Vote, words}
 use Rattle.labelling.specs.Votes.{ruleVote, Unanimous}
 use Rattle.labelling.specs.MinorFrames.{isWord, frames}
+use Rattle.labelling.specs.MajorFrames.{values, majors}
 use Rattle.labelling.specs.Machine.{State, stateOf, fresh, start}
 use Rattle.labelling.specs.Order.{isRule}
 use Rattle.labelling.specs.Calls.{TakeCall, takeRefusal, Answer, Progress, progressOf, feed, answer, taken, DutyCall, dutyRefusal, dutyAnswer}
@@ -29,7 +30,8 @@ use Rattle.labelling.proofs.Feeding.{WholeInv, FedRight, feed-right}
 use Rattle.labelling.proofs.CallLaws.{refused-taken, accepted-under, accepted-extent, accepted-rule, duty-accepted, duty-rule}
 use Rattle.labelling.proofs.Demand.{once}
 use Rattle.own_sync.specs.Locks.{locks as lockCount, toLock}
-use Rattle.own_sync.specs.OwnCut.{endsBehind, ownFrames}
+use Rattle.own_sync.specs.OwnCut.{endsBehind, ownFrames, ownFound}
+use Rattle.own_sync.specs.Recovery.{bytesIn}
 use Rattle.own_sync.specs.Relocking.{openGroup, wordsNext, noWord, locked, awaitsAfter, leadInBytes, leadIn, afterLeadIn, OtherWord, other-word}
 use Rattle.own_sync.specs.Relocking.{Relocked, done, refused, changed, takes-on, leads-in}
 use Rattle.own_sync.specs.OwnOnce.{OwnOnce}
@@ -37,6 +39,7 @@ use Rattle.own_sync.proofs.Locks.{part-accepted}
 use Rattle.own_sync.proofs.OwnCuts.{sync, own-each-word}
 use Rattle.own_sync.proofs.OpenGroup.{Pending, pending-of, four-each}
 use Rattle.own_sync.proofs.Beside.{Stage, in-hunt, in-frame, at-lock, led-in, Settled, isAtLock, Beside, same-frames, found-now, led, few-close-none}
+use Rattle.own_sync.proofs.Recovery.{led-majors, led-found, begun-majors, begun-found, damaged-majors}
 use Rattle.own_sync.proofs.Along.{Ahead, Along, along-start, comes, none-complete, Part, fed-part}
 
 -- they are calls of demand 3's lists
@@ -47,6 +50,16 @@ relocked-handed (changed d e h) = calls.changed d e (relocked-handed h)
 relocked-handed (takes-on w c e f h) = calls.accepted (toLock c) (part-accepted c e) (relocked-handed h)
 relocked-handed (leads-in c e f z o h) =
     calls.accepted (leadIn c) e (calls.accepted (toLock (afterLeadIn c)) (part-accepted (afterLeadIn c) f) (relocked-handed h))
+
+-- without a lead-in the bytes joined are the reel's
+relocked-joined : {w w′ : Bool} {t t′ : Tally} {a a′ bs : List ℕ} {cs : List Call} {n : ℕ} → Relocked w t a bs cs w′ t′ a′ n → n ≡ 0 → joined cs ≡ bs
+unfolding joined
+relocked-joined done z = refl
+relocked-joined (refused (takes c) m e h) z = rw (refused-taken c m e) (relocked-joined h z)
+relocked-joined (refused (changes d) m e h) z = relocked-joined h z
+relocked-joined (changed d e h) z = relocked-joined h z
+relocked-joined (takes-on w c e f h) z = ap (λ (l : List ℕ). taken (toLock c) ++ l) (relocked-joined h z)
+relocked-joined (leads-in c e f o x h) z = absurd (omega arith)
 
 -- a hunt ended or not
 locked-is : (m n : ℕ) (b : Bool) → n ≡ m + one b → ltb m n ≡ b
@@ -304,9 +317,20 @@ module _ (rule : ℕ) (a₀ : List ℕ) where
     once = all;
     each-word = own-each-word (words vote bs);
     frames-are = same;
-    paid-is = all .paid-is ∙ rw same;
-    lead-ins-are = sym (zero-add n) ∙ found-now (stands .along .beside) (stands .settled);
+    paid-is = paid-now;
+    lead-ins-are = found;
     bytes-are = all .counts .bytes-is ∙ r .length-is;
+    unled = unled;
+    recovers = record {
+      after-lead-in = λ m ms tail e v few.
+          let none : n ≡ 0 = found ∙ ap ownFound e ∙ led-found m ms tail v few in
+          (none, unled none, paid-now ∙ ap paidFrames e ∙ ap bytesIn (led-majors m ms tail v few));
+      begun-anywhere = λ q m ms tail e clear v plain few.
+          (found ∙ ap ownFound e ∙ begun-found m ms tail v few q clear plain, paid-now ∙ ap paidFrames e ∙ ap bytesIn (begun-majors m ms tail v few q clear plain));
+      after-damage = λ d m ms tail e v conform few.
+          let x = damaged-majors m ms tail v conform few d in
+          (bytesIn (x .0), paid-now ∙ ap paidFrames e ∙ ap bytesIn (x .1) ∙ map-append (concatMap values) (x .0) ms);
+    };
   }
     where
       handed : Handed (fresh rule) a₀ cs t a
@@ -323,3 +347,16 @@ module _ (rule : ℕ) (a₀ : List ℕ) where
 
       same : framesIn vote (joined cs) ≡ ownFrames (words vote bs)
       same = same-frames (stands .along .beside)
+
+      found : n ≡ ownFound (words vote bs)
+      found = sym (zero-add n) ∙ found-now (stands .along .beside) (stands .settled)
+
+      -- the major frames of words, as their bytes
+      paidFrames : List Word → List (List ℕ)
+      paidFrames ws = bytesIn (majors (ownFrames ws))
+
+      paid-now : paid cs ≡ paidFrames (words vote bs)
+      paid-now = all .paid-is ∙ rw same
+
+      unled : n ≡ 0 → joined cs ≡ bs
+      unled z = relocked-joined h z
