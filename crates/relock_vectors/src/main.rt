@@ -85,7 +85,7 @@ fn begun(rule: u64) -> Reading {
     let f = Feeder {
         tally: t,
         awaits: false,
-        lead_ins: 0,
+        handed: 0,
     };
     Reading {
         feeder: f,

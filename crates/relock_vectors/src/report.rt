@@ -30,7 +30,7 @@ pub(crate) fn whole(r: Reading, area: &[u8]) {
     framing(t);
     runs(t);
     kept(t);
-    field(b"lead-ins ", r.feeder.lead_ins);
+    field(b"lead-ins ", r.feeder.handed);
     field(b" awaits ", bit(r.feeder.awaits));
     field(b" area ", checksum(area));
     put(b"\n");
