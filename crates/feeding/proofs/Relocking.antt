@@ -60,6 +60,21 @@ pub accepted-by : (f : Feeder) (piece area : ℕ) → Accepts f piece area → r
 unfolding relockRefusal
 accepted-by f piece area a = rw (a .order, eq-eqb area 16384 (a .whole-area), le-ltb (2 ^ 40) (f .tally .groups .bytes + piece + 12) (a .fits))
 
+-- the lines of the table
+module _ (f : Feeder) (piece area : ℕ) where
+  pub not-in-order : feederInOrder f ≡ false → relockRefusal f piece area ≡ 1
+  unfolding relockRefusal
+  not-in-order o = rw o
+
+  module _ (o : feederInOrder f ≡ true) where
+    pub wrong-area : (area ≡ 16384 → ⊥) → relockRefusal f piece area ≡ 2
+    unfolding relockRefusal
+    wrong-area h = rw (o, ne-eqb area 16384 h)
+
+    pub too-long : area ≡ 16384 → 2 ^ 40 < f .tally .groups .bytes + piece + 12 → relockRefusal f piece area ≡ 3
+    unfolding relockRefusal
+    too-long h l = rw (o, eq-eqb area 16384 h, lt-ltb (2 ^ 40) (f .tally .groups .bytes + piece + 12) l)
+
 -- a shorter piece is accepted too
 pub accepts-part : (f : Feeder) (piece part area : ℕ) → part ≤ piece → relockRefusal f piece area ≡ 0 → relockRefusal f part area ≡ 0
 accepts-part f piece part area h e =
@@ -105,6 +120,12 @@ pub waits-or-not : (awaits : Bool) (t : Tally) → (awaits ≡ true → Waits (s
 waits-or-not true t h = stands-so t (h refl)
 waits-or-not false t h = refl
 
+-- a call of an accepted step is accepted
+pub call-accepted : (f : Feeder) (part old : List ℕ) → relockRefusal f (length part) (length old) ≡ 0 → takeRefusal (callOf (f .tally) part old) ≡ 0
+call-accepted f part old e =
+    let a = accepts f (length part) (length old) e in
+    no-refusal (f .tally) part old (in-order f (a .order) .in-tally) (a .whole-area) (omega (arith, a .fits))
+
 -- ---- one call as far as a lock
 
 module _ (c : TakeCall) (e : takeRefusal c ≡ 0) (l : Locked) (new : List ℕ) (p : LockPromise c l new) where
@@ -147,6 +168,53 @@ module _ (c : TakeCall) (e : takeRefusal c ≡ 0) (l : Locked) (new : List ℕ) 
           go true x y q = part .takes-some x
           go false x true q = p .takes-some q
           go false x false q = omega (arith, p .takes-all (p .refusal-is ∙ e) x q)
+
+-- ---- the lead-in, and a call
+
+-- the call of the lead-in answers s and leaves the area `mid`; that on the piece answers l
+module _ (f : Feeder) (piece old : List ℕ) (a : relockRefusal f (length piece) (length old) ≡ 0) (s : Taken) (mid : List ℕ)
+    (q : TakePromise (callOf (f .tally) leadInBytes old) s mid) (kept : length mid ≡ length old) where
+  abbrev lead : TakeCall
+  lead = leadIn (callOf (f .tally) piece old)
+
+  accepting : Accepts f (length piece) (length old)
+  accepting = accepts f (length piece) (length old) a
+
+  in-tally : inOrder (f .tally) ≡ true
+  in-tally = in-order f (accepting .order) .in-tally
+
+  lead-accepted : takeRefusal lead ≡ 0
+  lead-accepted = no-refusal (f .tally) leadInBytes old in-tally (accepting .whole-area) (omega (arith, accepting .fits))
+
+  led-is : callOf (s .tally) piece mid ≡ callLed f piece old
+  led-is = ap (λ (x : Answer). callOf (x .tally) piece (x .area)) (q .answer-is)
+
+  mid-is : answer lead .area ≡ mid
+  mid-is = ap (λ (x : Answer). x .area) (sym (q .answer-is))
+
+  led-accepted : takeRefusal (callLed f piece old) ≡ 0
+  led-accepted =
+      let few = accepted-extent lead lead-accepted .within in
+      no-refusal (answer lead .tally) piece (answer lead .area) (answer-ordered lead in-tally) (rw mid-is (kept ∙ accepting .whole-area))
+      (omega (arith, accepting .fits, accepted-bytes lead lead-accepted, few))
+
+  pub leads-so : (l : Locked) (new : List ℕ) → LockPromise (callOf (s .tally) piece mid) l new
+      → let r = l .taken in
+      LeadsIn f piece old
+      (record { refusal = 0; taken = r .taken; complete = r .complete; more = false; feeder = record { tally = r .tally; awaits = l .locked; handed = f .handed + 1 } }) new
+  leads-so l new p =
+      let p′ : LockPromise (callLed f piece old) l new = rw led-is at p in
+      record {
+        lead-accepted = lead-accepted;
+        led = called-so (callLed f piece old) led-accepted l new p′ (l .locked) (locked (callLed f piece old)) (f .handed + 1)
+            (locked-so (callLed f piece old) led-accepted l new p′);
+      }
+
+-- one lead-in more can be counted
+pub few-handed : (f : Feeder) (piece area : ℕ) → relockRefusal f piece area ≡ 0 → f .handed ≤ 2 ^ 40
+few-handed f piece area e =
+    let a = accepts f piece area e in
+    omega (arith, in-order f (a .order) .few, a .fits)
 
 -- ---- a step
 
