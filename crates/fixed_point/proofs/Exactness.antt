@@ -59,7 +59,7 @@ module _ (k n : ℕ) (N : n < 2 ^ 32) (K : k < 256) where
       go (suc m) e =
           let P : 0 < n = omega arith in
           let unscaled = eq-of-mul-eq-mul-right (2 ^ k) (pow-pos k) ((2 ^ 52 + fraction u) * 2 ^ exponent u) ((2 ^ 52 + fraction v) * 2 ^ exponent v)
-              (p .whole P ∙ sym (q .whole P)) in
+          (p .whole P ∙ sym (q .whole P)) in
           let form = one-form (fraction u) (fraction v) (exponent u) (exponent v) (omega arith) (omega arith) unscaled in
           same-bits (bitsOf u) (bitsOf v) (toBits-lt binary64 u fu) (toBits-lt binary64 v fv) (p .sign-is ∙ sym (q .sign-is)) (form .0) (form .1)
 

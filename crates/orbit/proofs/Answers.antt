@@ -82,7 +82,7 @@ module _ (cycle : List ℕ) (y k : ℕ) where
   unfolding ephemerisOf
   ephemeris-refused n r e z f =
       let a = is-refused (λ (u : Ephemeris). u .refusal) noEphemeris (λ m. refl) (datedLines cycle y k)
-              (ephemerisIn i (columnOf cycle k) (ephemerisPlace k)) n r e z f in
+      (ephemerisIn i (columnOf cycle k) (ephemerisPlace k)) n r e z f in
       record { answer = a .0; in-step = λ q. absurd (a .1 q); exact = λ q. absurd (a .1 q) }
 
   pub ephemeris-given : (c : List ℕ) (p t : ℕ) (r : Ephemeris) → refusal (datedLines cycle y k) ≡ 0 → c ≡ columnOf cycle k → p ≡ ephemerisPlace k → t ≡ i

@@ -3,19 +3,17 @@
 use mathlib.Core.Path.{_≡_}
 use mathlib.Core.List.{List}
 use Prim.Native.Nat.{ℕ, _+_, _*_}
-use lib.Ieee.{Float}
 use Rattle.base.specs.Refusal.{answered}
 use Rattle.cycle.specs.Cycle.{instantOf}
 use Rattle.cycle_records.specs.Columns.{columnOf}
 use Rattle.fixed_point.specs.Counts.{Exact}
-use Rattle.fixed_point.specs.Promise.{ScaledPromise}
 use Rattle.float1750.specs.Double as number
 use Rattle.orbit.specs.declared.temperatures.Temperatures.{Temperatures}
 use Rattle.orbit.specs.declared.gyro_drift.GyroDrift.{GyroDrift}
 use Rattle.orbit.specs.declared.attitude.Attitude.{Attitude}
 use Rattle.orbit.specs.declared.clock.Clock.{Clock}
 use Rattle.orbit.specs.declared.ephemeris.Ephemeris.{Ephemeris}
-use Rattle.orbit.specs.Records.{word, twelveBits, twelveAt, temperatureCount, clockUpdate, ephemerisPlace}
+use Rattle.orbit.specs.Records.{word, twelveAt, temperatureCount, clockUpdate, ephemerisPlace}
 use Rattle.orbit.specs.Records.{noTemperatures, clearLine, temperaturesIn, gyroDriftIn, noClock, normalLine, clockIn, ephemerisIn}
 use Rattle.orbit.specs.Records.{temperaturesOf, gyroDriftOf, attitudeOf, clockOf, ephemerisOf}
 
@@ -42,10 +40,6 @@ pub record ExactEphemeris (c : List ℕ) (p : ℕ) (r : Ephemeris) : Type 0 wher
   pub vx : Exact 28 (word c (p + 12)) (r .vx)
   pub vy : Exact 28 (word c (p + 16)) (r .vy)
   pub vz : Exact 28 (word c (p + 20)) (r .vz)
-
--- the temperature of two bytes
-abbrev pub CelsiusPromise : ℕ → ℕ → Float → Type 0
-CelsiusPromise high low r = ScaledPromise 11 (temperatureCount (twelveBits high low)) r
 
 -- ---- inside: of a column of 128 places, with its own line where it has one, and an instant
 

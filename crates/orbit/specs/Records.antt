@@ -49,11 +49,8 @@ celsius dn = scaled 11 (temperatureCount dn)
 abbrev pub isClear : ℕ → Bool
 isClear high = eqb (high / 16) 0
 
-abbrev pub fourClear : ℕ → ℕ → ℕ → ℕ → Bool
-fourClear a b c d = isClear a && isClear b && isClear c && isClear d
-
 abbrev pub upperClear : List ℕ → Bool
-upperClear c = fourClear (getD c 108 0) (getD c 110 0) (getD c 112 0) (getD c 114 0)
+upperClear c = isClear (getD c 108 0) && isClear (getD c 110 0) && isClear (getD c 112 0) && isClear (getD c 114 0)
 
 -- the line of a column
 abbrev pub clearLine : List ℕ → List Line

@@ -1,7 +1,9 @@
 // The attitude (DFCB 3.2.7.4.5), in every major frame.
 ghost use mathlib.Core.Path.{_≡_};
+ghost use Prim.Native.Nat.{_+_, _≤_};
 ghost use lib.ListN.{length};
-ghost use Rattle.orbit.specs.Records.{attitudeIn, noAttitude};
+ghost use Rattle.fixed_point.specs.Counts.{signed};
+ghost use Rattle.orbit.specs.Records.{word, attitudeIn, noAttitude};
 ghost use Rattle.orbit.specs.Promise.{AttitudePromise};
 use cycle_records::column;
 use cycle_records::count32;
@@ -36,11 +38,19 @@ fn in_column(column: &[u8], instant: u64) -> Attitude
     Attitude {
         refusal: 0,
         instant: instant,
-        epa1: fixed_point::signed(count32(column, 0)),
-        epa2: fixed_point::signed(count32(column, 4)),
-        epa3: fixed_point::signed(count32(column, 8)),
-        epa4: fixed_point::signed(count32(column, 12)),
+        epa1: parameter(column, 0),
+        epa2: parameter(column, 4),
+        epa3: parameter(column, 8),
+        epa4: parameter(column, 12),
     }
+}
+
+// The Euler parameter from a place on.
+fn parameter(column: &[u8], place: usize) -> i64
+    requires { ⌜ place + 4 ≤ length (now column) ⌝ }
+    ensures { λ r. ⌜ r ≡ signed (word (now (column .entry)) place) ⌝ }
+{
+    fixed_point::signed(count32(column, place))
 }
 
 fn none(number: u8) -> Attitude

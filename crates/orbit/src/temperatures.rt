@@ -1,8 +1,10 @@
 // The temperatures of table 11 (DFCB 3.2.7.4.2), in every major frame.
 ghost use mathlib.Core.Path.{_≡_};
+ghost use Prim.Native.Nat.{_+_, _≤_, _<_};
 ghost use lib.ListN.{length};
-ghost use Rattle.orbit.specs.Records.{noTemperatures, fourClear};
-ghost use Rattle.orbit.specs.Promise.{TemperaturesPromise, TemperaturesIn, CelsiusPromise};
+ghost use Rattle.fixed_point.specs.Promise.{ScaledPromise};
+ghost use Rattle.orbit.specs.Records.{twelveBits, twelveAt, temperatureCount, upperClear, noTemperatures};
+ghost use Rattle.orbit.specs.Promise.{TemperaturesPromise, TemperaturesIn};
 use base::refusal;
 use base::wide;
 use cycle_records::column;
@@ -36,30 +38,42 @@ fn in_column(column: &[u8]) -> Temperatures
     requires { ⌜ length (now column) ≡ 128 ⌝ }
     ensures { λ r. ⌜ TemperaturesIn (now (column .entry)) r ⌝ }
 {
-    if !upper_clear(column[108], column[110], column[112], column[114]) {
+    if !upper_clear(column) {
         return none(refusal::UPPER_BITS_SET);
     }
     Temperatures {
         refusal: 0,
-        temp1: celsius(column[108], column[109]),
-        temp2: celsius(column[110], column[111]),
-        temp3: celsius(column[112], column[113]),
-        temp4: celsius(column[114], column[115]),
+        temp1: celsius(column, 108),
+        temp2: celsius(column, 110),
+        temp3: celsius(column, 112),
+        temp4: celsius(column, 114),
     }
 }
 
-fn upper_clear(a: u8, b: u8, c: u8, d: u8) -> bool
-    ensures { λ r. ⌜ r ≡ fourClear a b c d ⌝ }
+// Whether the upper four bits of each are 0.
+fn upper_clear(column: &[u8]) -> bool
+    requires { ⌜ length (now column) ≡ 128 ⌝ }
+    ensures { λ r. ⌜ r ≡ upperClear (now (column .entry)) ⌝ }
 {
-    (a / 16 == 0) & (b / 16 == 0) & (c / 16 == 0) & (d / 16 == 0)
+    (column[108] / 16 == 0)
+        & (column[110] / 16 == 0)
+        & (column[112] / 16 == 0)
+        & (column[114] / 16 == 0)
 }
 
-// 50 − DN × 25/2048 degrees, of a DN of 12 bits.
-fn celsius(high: u8, low: u8) -> f64
-    ensures { λ r. ⌜ CelsiusPromise high low r ⌝ }
+// 50 − DN × 25/2048 degrees, of the 12-bit DN from a place on.
+fn celsius(column: &[u8], place: usize) -> f64
+    requires { ⌜ place + 2 ≤ length (now column) ⌝ }
+    ensures { λ r. ⌜ ScaledPromise 11 (temperatureCount (twelveAt (now (column .entry)) place)) r ⌝ }
 {
-    let dn = wide(high % 16) * 256 + wide(low);
+    let dn = twelve_bits(column[place], column[place + 1]);
     fixed_point::scaled((102_400 - 25 * dn) as u32, PLACES)
+}
+
+fn twelve_bits(high: u8, low: u8) -> u64
+    ensures { λ r. ⌜ (r ≡ twelveBits high low) × (r < 4096) ⌝ }
+{
+    wide(high % 16) * 256 + wide(low)
 }
 
 fn none(number: u8) -> Temperatures

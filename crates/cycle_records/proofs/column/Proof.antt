@@ -31,7 +31,7 @@ gather-requires : tie.Need-gather-requires
 gather-requires c κs = search needs
 
 returns : tie.Need-returns
-returns c = 
+returns c =
     let s = c .before .before .before .before .before in
     let body = now (s .args .body) in
     let is = column-is body (s .args .k) (replicate 128 0) _ (s .pre .0) (s .pre .1) (length-replicate {A = ℕ} 128 0) (c .before .gather .ensures .after) in

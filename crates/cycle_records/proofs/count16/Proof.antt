@@ -23,7 +23,7 @@ read-requires : tie.Need-read-requires
 read-requires c κs = search needs
 
 returns : tie.Need-returns
-returns c = 
+returns c =
     let s = c .before .before .before in
     count-is 2 (now (s .args .column)) (s .args .place) _ (omega arith) (s .pre) (c .read .ensures)
 

@@ -23,14 +23,14 @@ read-requires : tie.Need-read-requires
 read-requires c κs = search needs
 
 cast-result : tie.Need-cast-result
-cast-result c = 
+cast-result c =
     let s = c .before .before .before in
     let column = now (s .args .column) in
     let below = count-below 4 column (s .args .place) (s .pre) (λ k. omega (arith, c .before .before .shared-slice-known .given k)) in
     omega (arith, below, count-is 4 column (s .args .place) _ (omega arith) (s .pre) (c .read .ensures))
 
 returns : tie.Need-returns
-returns c = 
+returns c =
     let s = c .before .before .before in
     count-is 4 (now (s .args .column)) (s .args .place) _ (omega arith) (s .pre) (c .read .ensures)
 

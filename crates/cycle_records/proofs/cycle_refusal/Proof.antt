@@ -9,7 +9,7 @@ use Rattle.cycle_records.proofs.cycle_refusal.Statement.{statement}
 use Rattle.cycle_records.proofs.cycle_refusal.Tie as tie
 
 returns : tie.Need-returns
-returns c = 
+returns c =
     let a = c .before .before .args in
     sym (wrong-length (now (a .body)) (a .year) (a .k) (c .if1 .taken))
 
@@ -17,14 +17,14 @@ in-span-requires : tie.Need-in-span-requires
 in-span-requires c κs = search needs
 
 returns-2 : tie.Need-returns-2
-returns-2 c = 
+returns-2 c =
     let tested = c .before in
     let sized = tested .before in
     let a = sized .before .before .args in
     sym (out-of-span (now (a .body)) (a .year) (a .k) (sized .if1 .left) (sym (tested .in-span .ensures) ∙ not-true _ (c .if2 .taken)))
 
 returns-3 : tie.Need-returns-3
-returns-3 c = 
+returns-3 c =
     let spanned = c .before in
     let tested = spanned .before in
     let sized = tested .before in
@@ -35,7 +35,7 @@ is-cycle-requires : tie.Need-is-cycle-requires
 is-cycle-requires c κs = search needs
 
 returns-4 : tie.Need-returns-4
-returns-4 c = 
+returns-4 c =
     let framed = c .before .before in
     let spanned = framed .before in
     let tested = spanned .before in
@@ -45,7 +45,7 @@ returns-4 c =
     sym (no-cycle (now (a .body)) (a .year) (a .k) (sized .if1 .left) span (omega arith) (sym (c .before .is-cycle .ensures) ∙ not-true _ (c .if4 .taken)))
 
 returns-5 : tie.Need-returns-5
-returns-5 c = 
+returns-5 c =
     let framed = c .before .before in
     let spanned = framed .before in
     let tested = spanned .before in

@@ -11,13 +11,13 @@ cycle-refusal-requires : tie.Need-cycle-refusal-requires
 cycle-refusal-requires c κs = search needs
 
 returns : tie.Need-returns
-returns c = 
+returns c =
     let told = c .before in
     let a = told .before .before .args in
     dated-first (now (a .body)) (a .year) (a .k) _ (told .cycle-refusal .ensures) (c .if1 .taken)
 
 instant-requires : tie.Need-instant-requires
-instant-requires c κs = 
+instant-requires c κs =
     let a = c .before .before .before .args in
     to-cycle (now (a .body)) (a .year) (a .k) (sym (c .before .cycle-refusal .ensures) ∙ c .if1 .left) .frame
 
@@ -25,7 +25,7 @@ is-writable-requires : tie.Need-is-writable-requires
 is-writable-requires c κs = search needs
 
 returns-2 : tie.Need-returns-2
-returns-2 c = 
+returns-2 c =
     let timed = c .before .before in
     let passed = timed .before in
     let told = passed .before in
@@ -34,7 +34,7 @@ returns-2 c =
     dated-last (now (a .body)) (a .year) (a .k) _ true none (timed .instant .ensures) (sym (c .if2 .taken) ∙ c .before .is-writable .ensures)
 
 returns-3 : tie.Need-returns-3
-returns-3 c = 
+returns-3 c =
     let timed = c .before .before in
     let passed = timed .before in
     let told = passed .before in

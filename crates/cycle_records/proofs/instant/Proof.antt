@@ -13,12 +13,12 @@ instant-requires : tie.Need-instant-requires
 instant-requires c κs = search needs
 
 record-instant-requires : tie.Need-record-instant-requires
-record-instant-requires c κs = 
+record-instant-requires c κs =
     let s = c .before .before in
     (omega (arith, c .instant .ensures, instant-small (s .args .year) (now (s .args .body))), s .pre)
 
 returns : tie.Need-returns
-returns c = 
+returns c =
     let s = c .before .before .before in
     c .record-instant .ensures ∙ ap (λ (t : ℕ). recordInstant t (s .args .k)) (c .before .instant .ensures)
 

@@ -1,40 +1,43 @@
+-- `orbit::clock::read` meets its contract. Assumes nothing.
+use mathlib.Core.Path.{sym, _∙_}
+use denote.Ref.{now}
+use Rattle.cycle_records.proofs.Known.{to-cycle}
+use Rattle.orbit.proofs.Answers.{clock-refused, clock-given}
 use borrow.Author.Needs.{needs}
 use Rattle.orbit.proofs.clock.read.Statement.{statement}
 use Rattle.orbit.proofs.clock.read.Tie as tie
-use Rattle.orbit.proofs.clock.read.Reads as reads
-use Rattle.orbit.proofs.clock.read.Lts as lts
-use Rattle.cycle_records.proofs.column.Reads as column-reads
-use Rattle.cycle_records.proofs.cycle_refusal.Reads as cycle-refusal-reads
-use Rattle.orbit.proofs.clock.in_column.Reads as in-column-reads
-use Rattle.orbit.proofs.clock.none.Reads as none-reads
 
--- src/clock.rt:24:9
 cycle-refusal-requires : tie.Need-cycle-refusal-requires
 cycle-refusal-requires c κs = search needs
 
--- src/clock.rt:26:9
 none-requires : tie.Need-none-requires
 none-requires c κs = search needs
 
--- src/clock.rt:26:9
 returns : tie.Need-returns
-returns c = ?
+returns c =
+    let told = c .before .before in
+    let a = told .before .before .args in
+    clock-refused (now (a .body)) (a .year) _ _ (told .cycle-refusal .ensures) (c .before .if1 .taken) (c .none .ensures)
 
--- src/clock.rt:28:18
 column-requires : tie.Need-column-requires
-column-requires c κs = ?
+column-requires c κs =
+    let a = c .before .before .before .args in
+    let known = to-cycle (now (a .body)) (a .year) 0 (sym (c .before .cycle-refusal .ensures) ∙ c .if1 .left) in
+    (known .sized, known .frame)
 
--- src/clock.rt:29:15
 slice-aggregate-in-column : tie.Need-slice-aggregate-in-column
 slice-aggregate-in-column c = search needs
 
--- src/clock.rt:29:5
 in-column-requires : tie.Need-in-column-requires
 in-column-requires c κs = search needs
 
--- src/clock.rt:21:1
 returns-2 : tie.Need-returns-2
-returns-2 c = ?
+returns-2 c =
+    let gathered = c .before .before in
+    let passed = gathered .before in
+    let told = passed .before in
+    let a = told .before .before .args in
+    clock-given (now (a .body)) (a .year) _ _ (sym (told .cycle-refusal .ensures) ∙ passed .if1 .left) (gathered .column .ensures .0) (c .in-column .ensures)
 
 pub read-spec : {M : Type 1} → statement M
 read-spec =

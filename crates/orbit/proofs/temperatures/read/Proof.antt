@@ -1,40 +1,43 @@
+-- `orbit::temperatures::read` meets its contract. Assumes nothing.
+use mathlib.Core.Path.{sym, _∙_}
+use denote.Ref.{now}
+use Rattle.cycle_records.proofs.Known.{to-cycle}
+use Rattle.orbit.proofs.Answers.{temperatures-refused, temperatures-given}
 use borrow.Author.Needs.{needs}
 use Rattle.orbit.proofs.temperatures.read.Statement.{statement}
 use Rattle.orbit.proofs.temperatures.read.Tie as tie
-use Rattle.orbit.proofs.temperatures.read.Reads as reads
-use Rattle.orbit.proofs.temperatures.read.Lts as lts
-use Rattle.cycle_records.proofs.column.Reads as column-reads
-use Rattle.cycle_records.proofs.cycle_refusal.Reads as cycle-refusal-reads
-use Rattle.orbit.proofs.temperatures.in_column.Reads as in-column-reads
-use Rattle.orbit.proofs.temperatures.none.Reads as none-reads
 
--- src/temperatures.rt:27:9
 cycle-refusal-requires : tie.Need-cycle-refusal-requires
 cycle-refusal-requires c κs = search needs
 
--- src/temperatures.rt:29:9
 none-requires : tie.Need-none-requires
 none-requires c κs = search needs
 
--- src/temperatures.rt:29:9
 returns : tie.Need-returns
-returns c = ?
+returns c =
+    let told = c .before .before in
+    let a = told .before .before .args in
+    temperatures-refused (now (a .body)) (a .year) (a .k) _ _ (told .cycle-refusal .ensures) (c .before .if1 .taken) (c .none .ensures)
 
--- src/temperatures.rt:31:18
 column-requires : tie.Need-column-requires
-column-requires c κs = ?
+column-requires c κs =
+    let a = c .before .before .before .args in
+    let known = to-cycle (now (a .body)) (a .year) (a .k) (sym (c .before .cycle-refusal .ensures) ∙ c .if1 .left) in
+    (known .sized, known .frame)
 
--- src/temperatures.rt:32:15
 slice-aggregate-in-column : tie.Need-slice-aggregate-in-column
 slice-aggregate-in-column c = search needs
 
--- src/temperatures.rt:32:5
 in-column-requires : tie.Need-in-column-requires
 in-column-requires c κs = search needs
 
--- src/temperatures.rt:24:1
 returns-2 : tie.Need-returns-2
-returns-2 c = ?
+returns-2 c =
+    let gathered = c .before .before in
+    let passed = gathered .before in
+    let told = passed .before in
+    let a = told .before .before .args in
+    temperatures-given (now (a .body)) (a .year) (a .k) _ _ (sym (told .cycle-refusal .ensures) ∙ passed .if1 .left) (gathered .column .ensures .0) (c .in-column .ensures)
 
 pub read-spec : {M : Type 1} → statement M
 read-spec =
