@@ -1,6 +1,7 @@
 // The proved reader against the plain one: differential STREAMS SEED. Stream i has the seed SEED + i, so that a stream which fails is run
 // alone by `1` and its own seed. The readers that the timing compares with are held to the same, and each seed tries the lookup, the
-// writer, the codecs, every item of every kind of word 72, a book of cycles and two books compared too.
+// writer, the codecs, every item of every kind of word 72, a book of cycles, two
+// books compared and the records of a cycle too.
 
 mod alike;
 mod book;
@@ -16,6 +17,7 @@ mod frame_store;
 mod items;
 mod lookup;
 mod nominal;
+mod orbit;
 mod plain;
 mod stream;
 mod tally;
@@ -90,6 +92,7 @@ struct Seen {
     word72: items::Met,
     books: book::Met,
     comparisons: book_compare::Met,
+    records: orbit::Met,
 }
 
 impl Seen {
@@ -151,6 +154,7 @@ impl Seen {
             ("word 72", self.word72.cases()),
             ("books", self.books.cases()),
             ("books compared", self.comparisons.cases()),
+            ("records of a cycle", self.records.cases()),
         ]
     }
 
@@ -222,7 +226,8 @@ impl Trial {
         codecs::trials(&mut self.r)?;
         items::trials(&mut self.r, &mut seen.word72)?;
         book::trials(&mut self.r, &mut seen.books)?;
-        book_compare::trials(&mut self.r, &mut seen.comparisons)
+        book_compare::trials(&mut self.r, &mut seen.comparisons)?;
+        orbit::trials(&mut self.r, &mut seen.records)
     }
 
     fn readers(&mut self, seen: &mut Seen) -> Result<(), String> {
