@@ -247,6 +247,16 @@ def made_columns(rng, code, words=None):
     return columns
 
 
+def shown(bench, rng):
+    """The record that the README shows: major frame 3 of a cycle with 01's time code."""
+    columns = [bytearray(c) for c in made_columns(rng, bytes.fromhex("7123045607890f"))]
+    columns[3][16:40] = bytes.fromhex("13c84a9f b3848680 49bfba40 e6000000 4c200000 57080000")
+    bench.load(columns)
+    bench.ask(2000, 3)
+    exact = map(Fraction, ("1296458.62109375", "-5012345.5", "4833210.25", "-1.625", "4.7578125", "5.439453125"))
+    assert bench.lines[-7:] == ["ephemeris 0 at 170319551791"] + numbers(exact)
+
+
 def values(bench, rng):
     """Counts at their edges in every place, and random ones; each major frame."""
     for turn in range(len(EDGES)):
@@ -311,6 +321,7 @@ def refusals(bench, rng):
 def main():
     rng = random.Random(26)
     bench = Bench()
+    shown(bench, rng)
     values(bench, rng)
     instants(bench, rng)
     refusals(bench, rng)
