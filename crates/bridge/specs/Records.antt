@@ -12,7 +12,6 @@ use Rattle.orbit.specs.declared.gyro_drift.GyroDrift.{GyroDrift}
 use Rattle.orbit.specs.declared.attitude.Attitude.{Attitude}
 use Rattle.orbit.specs.declared.clock.Clock.{Clock}
 use Rattle.orbit.specs.declared.ephemeris.Ephemeris.{Ephemeris}
-use Rattle.orbit.specs.Records.{temperaturesOf, gyroDriftOf, attitudeOf, clockOf, ephemerisOf}
 
 -- what a lent place holds afterwards
 abbrev pub unless : {A : Type 0} → ℕ → A → A → A

@@ -1,5 +1,5 @@
 -- A gathered column has 128 places, and a count that is read from it fits. Assumes nothing.
-use mathlib.Core.Path.{_≡_, refl, sym, ap, _∙_}
+use mathlib.Core.Path.{_≡_, refl, ap, _∙_}
 use mathlib.Core.Bool.{Bool, true, false}
 use mathlib.Core.List.{List}
 use Prim.Native.Nat.{ℕ, zero, suc, _+_, _*_, _-_, _^_, _≤_, _<_}
@@ -8,7 +8,7 @@ use lib.Dec.{ltb}
 use lib.ListN.{length, getD, take, drop, length-take, length-drop, List·getD-eq-default}
 use lib.Seq.{getD-take, getD-drop}
 use borrow.Author.Tests.{ltb-true, ltb-false}
-use Rattle.base.specs.Numbers.{bigEndian, NumberOf}
+use Rattle.base.specs.Numbers.{NumberOf}
 use Rattle.base.proofs.Numbers.{Bytes, big-endian-below}
 use Rattle.cycle.proofs.Frames.{gathers}
 use Rattle.base.specs.Rows.{row}

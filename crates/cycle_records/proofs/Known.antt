@@ -4,11 +4,11 @@ use mathlib.Core.Bool.{Bool, true, false, cond, not}
 use mathlib.Core.List.{List, [], _∷_, _++_}
 use Prim.Native.Nat.{ℕ, _+_, _*_, _≤_, _<_}
 use native.Mathlib.Omega.{arith}
-use lib.Dec.{eqb, leb}
+use lib.Dec.{eqb}
 use lib.ListN.{length}
 use borrow.Author.Tests.{ne-eqb, eqb-true, eqb-false, leb-true, le-leb, lt-leb, not-false}
-use Rattle.base.specs.Refusal.{Line, _when_, answered, refusal}
-use Rattle.base.proofs.Refusals.{NoneHolds, Positive, answered-given}
+use Rattle.base.specs.Refusal.{Line, _when_, refusal}
+use Rattle.base.proofs.Refusals.{Positive, answered-given}
 use Rattle.cycle.specs.Cycle.{isCycle, instantOf}
 use Rattle.time_code.specs.Calendar.{inSpan}
 use Rattle.cycle_records.specs.Instants.{recordInstant, isWritable}

@@ -3,13 +3,13 @@
 use mathlib.Core.Path.{_≡_, refl, sym, ap, _∙_}
 use mathlib.Core.Bool.{Bool, true, false}
 use Prim.Native.Nat.{ℕ, zero, suc, _+_, _-_, _*_, _%_, _^_, _≤_, _<_}
-use native.Mathlib.Nat.{mul-le-mul-right, mul-comm, lt-of-lt-of-le}
+use native.Mathlib.Nat.{mul-le-mul-right, lt-of-lt-of-le}
 use native.Mathlib.Omega.{arith}
 use lib.Count.{leadingZeros, leading-top}
 use lib.Dec.{T, eqb, leb}
-use lib.Ieee.{Float, odd, binary64, ofBits, toBits, isNan, nanBits, fits}
+use lib.Ieee.{odd, binary64, ofBits, toBits, isNan, nanBits, fits}
 use lib.Ieee.Bits.{toBits-ofBits, ofBits-fits, nanBits-is, nanBits-above}
-use lib.Pow.{pow-add, pow-pos, pow-mono, shl-lt, shl-exact}
+use lib.Pow.{pow-add, pow-pos, pow-mono, shl-lt}
 use borrow.Author.Tests.{le-ltb, leb-true, leb-false}
 use Rattle.float1750.proofs.Pattern.{packed, packed-read, odd-shifted, odd-cancelled, odd-counted}
 

@@ -1,21 +1,21 @@
 -- The double of a count is exactly it, and no other double is. Assumes nothing.
 use mathlib.Core.Path.{_≡_, refl, sym, ap, _∙_}
-use mathlib.Core.Bool.{Bool, true, false, cond}
-use Prim.Native.Nat.{ℕ, zero, suc, _+_, _-_, _*_, _/_, _%_, _^_, _≤_, _<_}
-use native.Mathlib.Nat.{mul-assoc, mul-comm, eq-of-mul-eq-mul-right}
+use mathlib.Core.Bool.{true, false}
+use Prim.Native.Nat.{ℕ, zero, suc, _+_, _-_, _*_, _^_, _≤_, _<_}
+use native.Mathlib.Nat.{mul-assoc, eq-of-mul-eq-mul-right}
 use native.Mathlib.Omega.{arith}
-use lib.Dec.{T, eqb, leb}
+use lib.Dec.{T, eqb}
 use lib.Ieee.{Float, odd, binary64, ofBits, toBits, fits}
 use lib.Ieee.Bits.{toBits-lt}
 use lib.Pow.{pow-add, pow-pos}
 use borrow.Author.Tests.{le-leb, lt-leb}
 use Rattle.base.specs.Lists.{one}
 use Rattle.float1750.specs.Double.{bitsOf, signOf, exponent, fraction}
-use Rattle.float1750.proofs.Pattern.{packed, packed-sign, packed-exponent, packed-fraction}
+use Rattle.float1750.proofs.Pattern.{packed, packed-exponent, packed-fraction}
 use Rattle.float1750.proofs.Exactness.{one-form, same-bits, same-double}
 use Rattle.fixed_point.specs.Counts.{isNegative, magnitude, scaled, Exact}
 use Rattle.fixed_point.specs.Promise.{ScaledPromise}
-use Rattle.fixed_point.proofs.Doubles.{first-digit, shift, field, moved, moved-least, moved-most, pattern, is-packed, value-bits, value-fits}
+use Rattle.fixed_point.proofs.Doubles.{first-digit, moved-least, moved-most, is-packed, value-bits, value-fits}
 
 -- ---- the double ±n / 2^k, over whole numbers
 module _ (g n k : ℕ) (G : g ≤ 1) (P : 0 < n) (N : n < 2 ^ 32) (K : k < 256) where

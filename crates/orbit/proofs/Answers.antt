@@ -1,12 +1,9 @@
 -- The promises of the entries, from the answer on each way out: a refusal is the table's, and what is given is given where no line holds.
 -- Assumes nothing.
 use mathlib.Core.Path.{_≡_, refl, sym, ap, _∙_}
-use mathlib.Core.Bool.{not, _||_}
-use mathlib.Core.List.{List, [], _∷_, _++_}
-use Prim.Native.Nat.{ℕ, _+_, _*_}
-use native.Mathlib.Omega.{arith}
-use lib.ListN.{length}
-use Rattle.base.specs.Refusal.{Line, _when_, answered, refusal}
+use mathlib.Core.List.{List}
+use Prim.Native.Nat.{ℕ}
+use Rattle.base.specs.Refusal.{Line, answered, refusal}
 use Rattle.base.proofs.Refusals.{Positive, answered-given, answered-append}
 use Rattle.cycle.specs.Cycle.{instantOf}
 use Rattle.cycle_records.specs.Columns.{columnOf}
@@ -19,9 +16,9 @@ use Rattle.orbit.specs.declared.gyro_drift.GyroDrift.{GyroDrift}
 use Rattle.orbit.specs.declared.attitude.Attitude.{Attitude}
 use Rattle.orbit.specs.declared.clock.Clock.{Clock}
 use Rattle.orbit.specs.declared.ephemeris.Ephemeris.{Ephemeris}
-use Rattle.orbit.specs.Records.{noTemperatures, clearLine, temperatureLines, temperaturesIn, temperaturesOf}
+use Rattle.orbit.specs.Records.{noTemperatures, clearLine, temperaturesIn, temperaturesOf}
 use Rattle.orbit.specs.Records.{noGyroDrift, gyroDriftIn, gyroDriftOf, noAttitude, attitudeIn, attitudeOf}
-use Rattle.orbit.specs.Records.{noClock, normalLine, clockLines, clockIn, clockOf, noEphemeris, ephemerisPlace, ephemerisIn, ephemerisOf}
+use Rattle.orbit.specs.Records.{noClock, normalLine, clockIn, clockOf, noEphemeris, ephemerisPlace, ephemerisIn, ephemerisOf}
 use Rattle.orbit.specs.Promise.{TemperaturesIn, DriftIn, ClockIn, EphemerisIn}
 use Rattle.orbit.specs.Promise.{TemperaturesPromise, GyroDriftPromise, AttitudePromise, ClockPromise, EphemerisPromise}
 
@@ -39,7 +36,8 @@ module _ (cycle : List ℕ) (y k : ℕ) where
   i = recordInstant (instantOf y cycle) k
 
   -- ---- temperatures
-  pub temperatures-refused : (n : ℕ) (r : Temperatures) → n ≡ refusal (cycleLines cycle y k) → (n ≡ 0 → ⊥) → r ≡ noTemperatures n → TemperaturesPromise cycle y k r
+  pub temperatures-refused : (n : ℕ) (r : Temperatures) → n ≡ refusal (cycleLines cycle y k) → (n ≡ 0 → ⊥) → r ≡ noTemperatures n
+      → TemperaturesPromise cycle y k r
   unfolding temperaturesOf
   temperatures-refused n r e z f =
       let a = is-refused (λ (u : Temperatures). u .refusal) noTemperatures (λ m. refl) (cycleLines cycle y k) _ n r e z f in
@@ -101,7 +99,8 @@ module _ (cycle : List ℕ) (y : ℕ) where
   pub drift-refused : (n : ℕ) (r : GyroDrift) → n ≡ refusal (datedLines cycle y 0) → (n ≡ 0 → ⊥) → r ≡ noGyroDrift n → GyroDriftPromise cycle y r
   unfolding gyroDriftOf
   drift-refused n r e z f =
-      let a = is-refused (λ (u : GyroDrift). u .refusal) noGyroDrift (λ m. refl) (datedLines cycle y 0) (gyroDriftIn (i cycle y 0) (columnOf cycle 0)) n r e z f in
+      let given = gyroDriftIn (i cycle y 0) (columnOf cycle 0) in
+      let a = is-refused (λ (u : GyroDrift). u .refusal) noGyroDrift (λ m. refl) (datedLines cycle y 0) given n r e z f in
       record { answer = a .0; in-step = λ q. absurd (a .1 q); exact = λ q. absurd (a .1 q) }
 
   pub drift-given : (c : List ℕ) (t : ℕ) (r : GyroDrift) → refusal (datedLines cycle y 0) ≡ 0 → c ≡ columnOf cycle 0 → t ≡ i cycle y 0 → DriftIn t c r

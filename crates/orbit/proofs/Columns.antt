@@ -35,7 +35,8 @@ module _ (c : List ℕ) where
   abbrev Celsius : ℕ → Float → Type 0
   Celsius place v = ScaledPromise 11 (temperatureCount (twelveAt c place)) v
 
-  pub temperatures-clear : (b : Bool) (t1 t2 t3 t4 : Float) → b ≡ upperClear c → b ≡ true → Celsius 108 t1 → Celsius 110 t2 → Celsius 112 t3 → Celsius 114 t4
+  pub temperatures-clear : (b : Bool) (t1 t2 t3 t4 : Float) → b ≡ upperClear c → b ≡ true → Celsius 108 t1 → Celsius 110 t2 → Celsius 112 t3
+      → Celsius 114 t4
       → TemperaturesIn c (record { refusal = 0; temp1 = t1; temp2 = t2; temp3 = t3; temp4 = t4 })
   temperatures-clear b t1 t2 t3 t4 e f p1 p2 p3 p4 = record {
     answer = rw (sym e ∙ f, p1 .answer, p2 .answer, p3 .answer, p4 .answer);

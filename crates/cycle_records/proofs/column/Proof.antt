@@ -1,7 +1,6 @@
 -- `cycle_records::column` meets its contract: what is gathered from rows of a cycle. Assumes nothing.
-use mathlib.Core.Path.{sym, ap, _∙_}
+use mathlib.Core.Path.{ap, _∙_}
 use Prim.Native.Nat.{ℕ}
-use native.Mathlib.Omega.{arith}
 use lib.ListN.{length, replicate, length-replicate}
 use denote.Ref.{now}
 use Rattle.cycle_records.proofs.Columns.{column-is, column-length}

@@ -1,8 +1,7 @@
 -- `cycle_records::count16` meets its contract. Assumes nothing.
 use native.Mathlib.Omega.{arith}
 use denote.Ref.{now}
-use Rattle.cycle_records.specs.Columns.{countAt}
-use Rattle.cycle_records.proofs.Columns.{count-is, count-below}
+use Rattle.cycle_records.proofs.Columns.{count-is}
 use borrow.Author.Needs.{needs}
 use Rattle.cycle_records.proofs.count16.Statement.{statement}
 use Rattle.cycle_records.proofs.count16.Tie as tie

@@ -1,7 +1,6 @@
 -- `cycle_records::count32` meets its contract. Assumes nothing.
 use native.Mathlib.Omega.{arith}
 use denote.Ref.{now}
-use Rattle.cycle_records.specs.Columns.{countAt}
 use Rattle.cycle_records.proofs.Columns.{count-is, count-below}
 use borrow.Author.Needs.{needs}
 use Rattle.cycle_records.proofs.count32.Statement.{statement}

@@ -4,7 +4,7 @@ use Prim.Native.Nat.{ℕ}
 use native.Mathlib.Omega.{arith}
 use denote.Ref.{now}
 use Rattle.cycle_records.specs.Instants.{recordInstant}
-use Rattle.cycle_records.proofs.Instants.{instant-small}
+use Rattle.cycle.proofs.Instants.{instant-small}
 use borrow.Author.Needs.{needs}
 use Rattle.cycle_records.proofs.instant.Statement.{statement}
 use Rattle.cycle_records.proofs.instant.Tie as tie

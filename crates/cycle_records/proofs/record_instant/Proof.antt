@@ -1,5 +1,4 @@
 -- `cycle_records::record_instant` meets its contract: k major frames on and two back is what the book lists for k. Assumes nothing.
-use native.Mathlib.Omega.{arith}
 use Rattle.cycle_records.proofs.Instants.{moved-early, moved}
 use borrow.Author.Needs.{needs}
 use Rattle.cycle_records.proofs.record_instant.Statement.{statement}

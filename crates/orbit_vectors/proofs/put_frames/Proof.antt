@@ -2,7 +2,6 @@
 use mathlib.Core.Path.{_≡_}
 use Prim.Native.Nat.{_-_}
 use lib.ListN.{length}
-use native.Mathlib.Omega.{arith}
 use borrow.Author.Needs.{needs}
 use Rattle.orbit_vectors.proofs.put_frames.Statement.{statement}
 use Rattle.orbit_vectors.proofs.put_frames.Tie as tie

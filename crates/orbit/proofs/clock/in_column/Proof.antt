@@ -50,8 +50,8 @@ returns c =
     let known = first .before .before in
     let read = known .before .before in
     let s = read .before .before .before in
-    clock-read (now (s .args .column)) (six s) _ _ _ _ _ (read .decode .ensures) (known .updated .given .1) (first .count16 .ensures) (second .count162 .ensures)
-    (c .count163 .ensures)
+    clock-read (now (s .args .column)) (six s) _ _ _ _ _ (read .decode .ensures) (known .updated .given .1) (first .count16 .ensures)
+    (second .count162 .ensures) (c .count163 .ensures)
 
 returns-2 : tie.Need-returns-2
 returns-2 c =
