@@ -223,8 +223,8 @@ uint8_t pcd_book_compare(const uint8_t *first, size_t first_len, const uint8_t *
 /* ---- The records of a cycle
  *
  * A cycle is PCD_BODY bytes, as a body of a book is. An instant is in sixteenths of a millisecond, as pcd_decode_time gives it: the cycle's time code
- * - 8.192 s, - 4.096 s, + 0 and + 4.096 s for the major frames 0 to 3. Every double is exact. Refused, each of them: 2, another length; 13; 6, a major
- * frame above 3; 17, no cycle of the year; and then as it says. */
+ * - 8.192 s, - 4.096 s, + 0 and + 4.096 s for the major frames 0 to 3. Every double is exact. Refused, each of them and in this order: 2, another length;
+ * 13; 6, a major frame above 3; 17, no cycle of the year; and last what it says. */
 
 /* The temperatures of a major frame, in degrees Celsius: the angular displacement sensors' X, Y and Z, and the PDF's. Refused: also 9. */
 uint8_t pcd_temperatures(const uint8_t *cycle, size_t cycle_len, uint64_t year, uint64_t frame, double out[4]);
