@@ -26,7 +26,7 @@ fn number(bytes: &[u8]) -> u64 {
 }
 
 // Where in a body a place of major frame k's column is.
-fn column_place(k: usize, place: usize) -> usize {
+pub fn column_place(k: usize, place: usize) -> usize {
     AREA * k + FRAME * place + WORD
 }
 
@@ -205,7 +205,7 @@ fn any_place(r: &mut Random, cycles: usize) -> usize {
 }
 
 // Makes a body otherwise than described, or its instant no later than that before; or neither, by a byte that may be any.
-fn spoil_body(r: &mut Random, bodies: &mut [u8], year: u64) {
+pub fn spoil_body(r: &mut Random, bodies: &mut [u8], year: u64) {
     let cycles = bodies.len() / BODY;
     let i = any_place(r, cycles);
     let before = i.checked_sub(1).and_then(|i| cycle(&bodies[BODY * i..BODY * (i + 1)], year));

@@ -80,6 +80,11 @@ extern "C" {
     fn pcd_previous_pointer(p: u64, out: *mut u64) -> u8;
     fn pcd_pointer_after(p: u64, n: u64, out: *mut u64) -> u8;
     fn pcd_pointer_distance(p: u64, q: u64, out: *mut u64) -> u8;
+    fn pcd_temperatures(cycle: *const u8, cycle_len: usize, year: u64, frame: u64, out: *mut [f64; 4]) -> u8;
+    fn pcd_gyro_drift(cycle: *const u8, cycle_len: usize, year: u64, instant: *mut u64, out: *mut [f64; 3]) -> u8;
+    fn pcd_attitude(cycle: *const u8, cycle_len: usize, year: u64, frame: u64, instant: *mut u64, out: *mut [i64; 4]) -> u8;
+    fn pcd_clock(cycle: *const u8, cycle_len: usize, year: u64, updated: *mut f64, out: *mut [u64; 3]) -> u8;
+    fn pcd_ephemeris(cycle: *const u8, cycle_len: usize, year: u64, frame: u64, instant: *mut u64, out: *mut [f64; 6]) -> u8;
 }
 
 // A tally as it crosses.
@@ -296,4 +301,24 @@ pub fn pointer_after(p: u64, n: u64, out: &mut u64) -> u8 {
 
 pub fn pointer_distance(p: u64, q: u64, out: &mut u64) -> u8 {
     unsafe { pcd_pointer_distance(p, q, out) }
+}
+
+pub fn temperatures(cycle: &[u8], year: u64, frame: u64, out: &mut [f64; 4]) -> u8 {
+    unsafe { pcd_temperatures(cycle.as_ptr(), cycle.len(), year, frame, out) }
+}
+
+pub fn gyro_drift(cycle: &[u8], year: u64, instant: &mut u64, out: &mut [f64; 3]) -> u8 {
+    unsafe { pcd_gyro_drift(cycle.as_ptr(), cycle.len(), year, instant, out) }
+}
+
+pub fn attitude(cycle: &[u8], year: u64, frame: u64, instant: &mut u64, out: &mut [i64; 4]) -> u8 {
+    unsafe { pcd_attitude(cycle.as_ptr(), cycle.len(), year, frame, instant, out) }
+}
+
+pub fn clock(cycle: &[u8], year: u64, updated: &mut f64, out: &mut [u64; 3]) -> u8 {
+    unsafe { pcd_clock(cycle.as_ptr(), cycle.len(), year, updated, out) }
+}
+
+pub fn ephemeris(cycle: &[u8], year: u64, frame: u64, instant: &mut u64, out: &mut [f64; 6]) -> u8 {
+    unsafe { pcd_ephemeris(cycle.as_ptr(), cycle.len(), year, frame, instant, out) }
 }

@@ -1,6 +1,7 @@
 // The proved reader against the plain one: differential STREAMS SEED. Stream i has the seed SEED + i, so that a stream which fails is run
 // alone by `1` and its own seed. The readers that the timing compares with are held to the same, and each seed tries the lookup, the
-// writer, the codecs, every item of every kind of word 72, a book of cycles, two books compared and the pay system's entries too.
+// writer, the codecs, every item of every kind of word 72, a book of cycles, two books compared, the records of a cycle and the pay system's
+// entries too.
 
 mod alike;
 mod book;
@@ -17,6 +18,7 @@ mod items;
 mod lock;
 mod lookup;
 mod nominal;
+mod orbit;
 mod pay;
 mod pay_api;
 mod plain;
@@ -96,6 +98,7 @@ struct Seen {
     word72: items::Met,
     books: book::Met,
     comparisons: book_compare::Met,
+    records: orbit::Met,
     pay: pay::Met,
 }
 
@@ -160,6 +163,7 @@ impl Seen {
             ("word 72", self.word72.cases()),
             ("books", self.books.cases()),
             ("books compared", self.comparisons.cases()),
+            ("records of a cycle", self.records.cases()),
             ("calls for the pay system", self.pay.cases()),
         ]
     }
@@ -235,7 +239,8 @@ impl Trial {
         items::trials(&mut self.r, &mut seen.word72)?;
         pay::trials(&mut self.r, &mut seen.pay)?;
         book::trials(&mut self.r, &mut seen.books)?;
-        book_compare::trials(&mut self.r, &mut seen.comparisons)
+        book_compare::trials(&mut self.r, &mut seen.comparisons)?;
+        orbit::trials(&mut self.r, &mut seen.records)
     }
 
     fn readers(&mut self, seen: &mut Seen) -> Result<(), String> {

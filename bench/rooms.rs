@@ -13,6 +13,8 @@ mod entry;
 #[allow(dead_code)]
 mod lookup;
 #[allow(dead_code)]
+mod orbit;
+#[allow(dead_code)]
 mod pay_api;
 #[allow(dead_code)]
 mod stream;
@@ -56,6 +58,11 @@ fn main() {
     println!("{:<18} | {:>7} {:>7} {:>7} | {:>7}", "cycles", "compare", "checks", "memcmp", "beside");
     print_compare("16 (1.0 MB)", 16);
     print_compare("255 (16.7 MB)", book::MOST);
+    println!();
+    println!("the 14 records of a cycle: µs a cycle, best of {BOOKS} rounds over 16 cycles, each call testing the whole cycle; and a copy of it");
+    println!();
+    println!("{:>7} {:>7} {:>7} | {:>7} {:>7}", "proved", "plain", "memcpy", "plain", "memcpy");
+    print_records();
     println!();
     vcdu_timing::print();
 }
@@ -108,6 +115,58 @@ fn print_compare(name: &str, cycles: usize) {
     }
     let [compare, checks, memcmp] = best;
     println!("{name:<18} | {compare:>7.3} {checks:>7.3} {memcmp:>7.3} | {:>7.2}", (compare - checks) / memcmp);
+}
+
+// All records of a cycle, as a sum of their instants: of each major frame ephemeris, attitude and temperatures; gyro drift and clock.
+fn records_proved(cycle: &[u8], year: u64) -> u64 {
+    let (mut sum, mut instant) = (0, 0);
+    let (mut six, mut integers, mut four, mut three, mut updated, mut terms) = ([0.0; 6], [0; 4], [0.0; 4], [0.0; 3], 0.0, [0; 3]);
+    for k in 0..4 {
+        assert_eq!(bridge::ephemeris(cycle, year, k, &mut instant, &mut six), 0);
+        sum += instant;
+        assert_eq!(bridge::attitude(cycle, year, k, &mut instant, &mut integers), 0);
+        sum += instant;
+        bridge::temperatures(cycle, year, k, &mut four);
+    }
+    assert_eq!(bridge::gyro_drift(cycle, year, &mut instant, &mut three), 0);
+    bridge::clock(cycle, year, &mut updated, &mut terms);
+    black_box((six, integers, four, three, updated, terms));
+    sum + instant
+}
+
+// The same in plain Rust, which likewise tests the cycle each time.
+fn records_plain(cycle: &[u8], year: u64) -> u64 {
+    let dated = |k| {
+        black_box(orbit::temperatures(cycle, year, k).ok());
+        orbit::ephemeris(cycle, year, k).map_or(0, |(instant, _)| instant) + orbit::attitude(cycle, year, k).map_or(0, |(instant, _)| instant)
+    };
+    black_box(orbit::clock(cycle, year).ok());
+    (0..4).map(dated).sum::<u64>() + orbit::gyro_drift(cycle, year).map_or(0, |(instant, _)| instant)
+}
+
+fn print_records() {
+    let mut r = Random(6);
+    let dated = |body: &Vec<u8>| (0..4).all(|k| orbit::ephemeris(body, 2000, k).is_ok());
+    let cycles: Vec<Vec<u8>> = (0..64).map(|_| orbit::any_body(&mut r, 2000)).filter(dated).take(16).collect();
+    let mut copy = vec![0; book::BODY];
+    let mut best = [f64::INFINITY; 3];
+    for _ in 0..BOOKS {
+        let mut time = |place: usize, work: &mut dyn FnMut(&[u8]) -> u64| -> u64 {
+            let started = Instant::now();
+            let sum = cycles.iter().map(|cycle| work(cycle)).sum();
+            best[place] = best[place].min(started.elapsed().as_secs_f64() * 1e6 / cycles.len() as f64);
+            sum
+        };
+        let proved = time(0, &mut |cycle| records_proved(cycle, 2000));
+        let plain = time(1, &mut |cycle| records_plain(cycle, 2000));
+        assert_eq!(proved, plain, "the records differ");
+        time(2, &mut |cycle| {
+            copy.copy_from_slice(black_box(cycle));
+            0
+        });
+    }
+    let [proved, plain, memcpy] = best;
+    println!("{proved:>7.1} {plain:>7.1} {memcpy:>7.1} | {:>7.2} {:>7.2}", plain / proved, memcpy / proved);
 }
 
 // Place 72 of each of the 128 minor frames, by steps of 128, and by the place of each.

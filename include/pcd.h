@@ -240,6 +240,28 @@ uint8_t pcd_book_body(const uint8_t *book, size_t book_len, uint64_t i, uint64_t
  * another size of the table; those of pcd_book_view_refusal for the first, then for the second; 21. */
 uint8_t pcd_book_compare(const uint8_t *first, size_t first_len, const uint8_t *second, size_t second_len, uint64_t *table, size_t table_len, uint64_t *lines);
 
+/* ---- The records of a cycle
+ *
+ * A cycle is PCD_BODY bytes, as a body of a book is. An instant is in sixteenths of a millisecond, as pcd_decode_time gives it: the cycle's time code
+ * - 8.192 s, - 4.096 s, + 0 and + 4.096 s for the major frames 0 to 3. Every double is exact. Refused, each of them and in this order: 2, another length;
+ * 13; 6, a major frame above 3; 17, no cycle of the year; and last what it says. */
+
+/* The temperatures of a major frame, in degrees Celsius: the angular displacement sensors' X, Y and Z, and the PDF's. Refused: also 9. */
+uint8_t pcd_temperatures(const uint8_t *cycle, size_t cycle_len, uint64_t year, uint64_t frame, double out[4]);
+
+/* The drift of the gyros, X, Y and Z, in radians per second, at the instant of major frame 0. Refused: also 8, the instant is none of the year. */
+uint8_t pcd_gyro_drift(const uint8_t *cycle, size_t cycle_len, uint64_t year, uint64_t *instant, double out[3]);
+
+/* The Euler parameters 1 to 4 of a major frame, as signed counts, whose weight is not known. Refused: also 8. */
+uint8_t pcd_attitude(const uint8_t *cycle, size_t cycle_len, uint64_t year, uint64_t frame, uint64_t *instant, int64_t out[4]);
+
+/* The last update of the clock, in seconds from midnight of the year's first day, where an instant counts a day more; and the counts of its bias (ms),
+ * its drift rate (ms/day) and its drift acceleration (ms/day^2), 0 to 65,535, whose weight and sign the book leaves open. Refused: also 10. */
+uint8_t pcd_clock(const uint8_t *cycle, size_t cycle_len, uint64_t year, double *updated, uint64_t out[3]);
+
+/* The position X, Y, Z in metres and the velocity X', Y', Z' in metres per millisecond of a major frame. Refused: also 8. */
+uint8_t pcd_ephemeris(const uint8_t *cycle, size_t cycle_len, uint64_t year, uint64_t frame, uint64_t *instant, double out[6]);
+
 /* ---- VCDU headers of eight bytes: bytes 0, 1 and 5 are six symbols of four bits, which the four check symbols in bytes 6 and 7 protect. The
  * counter in bytes 2 to 4 is not protected, and never changes. */
 

@@ -8,7 +8,7 @@ import glob
 import re
 import sys
 
-NUMBER = {"u8": "uint8_t", "u64": "uint64_t", "f64": "double"}
+NUMBER = {"u8": "uint8_t", "u64": "uint64_t", "i64": "int64_t", "f64": "double"}
 
 # A parameter's name that is a word of C++ has another in the header.
 RENAMED = {"operator": "operator_number"}

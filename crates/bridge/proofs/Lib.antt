@@ -6,3 +6,4 @@ pub mod HeaderCrossed
 pub mod PointerCrossed
 pub mod SlotsCrossed
 pub mod WordCrossed
+pub mod RecordsCrossed

@@ -6,3 +6,4 @@ pub mod LentPlaces
 pub mod Pointer
 pub mod Slots
 pub mod Word72
+pub mod Records

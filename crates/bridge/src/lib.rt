@@ -1,5 +1,5 @@
 // The library for programs in other languages: exported entries over the reader, the writer, word 72, its codecs, the lookup, books, VCDU headers,
-// the frame store and the data pointer, one file for each. include/pcd.h declares them for C.
+// the frame store, the data pointer and the records of a cycle, one file for each. include/pcd.h declares them for C.
 mod books;
 mod codecs;
 mod comparing;
@@ -7,6 +7,7 @@ mod finding;
 mod headers;
 mod pointer;
 mod reading;
+mod records;
 mod slots;
 mod word72;
 mod writing;
@@ -35,6 +36,11 @@ pub use reading::pcd_fresh;
 pub use reading::pcd_relock;
 pub use reading::pcd_take;
 pub use reading::pcd_take_to_lock;
+pub use records::pcd_attitude;
+pub use records::pcd_clock;
+pub use records::pcd_ephemeris;
+pub use records::pcd_gyro_drift;
+pub use records::pcd_temperatures;
 pub use slots::pcd_release;
 pub use slots::pcd_slot_refusal;
 pub use slots::pcd_store;

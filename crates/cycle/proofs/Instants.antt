@@ -1,4 +1,4 @@
--- The instant of a body: the seven bytes that it is read from, that it fits eight bytes, and that a cycle has one. Assumes nothing.
+-- The instant of a body: the seven bytes that it is read from, that it has 40 bits, so that it fits eight bytes, and that a cycle has one. Assumes nothing.
 use mathlib.Core.Path.{_≡_, refl, sym, ap, subst, _∙_}
 use mathlib.Core.Bool.{Bool, true, false, cond, not, _&&_, _||_}
 use mathlib.Core.List.{List, [], _∷_}
@@ -48,14 +48,14 @@ module _ (y : ℕ) (w : List ℕ) (t : T (isTime y w)) where
   unfolding isTime
   range = to-range y (day w) (hour w) (minute w) (second w) (and-r (decimal w 1 12) in-range t)
 
-  time-fits : instant w < 256 ^ 8
-  time-fits =
+  time-small : instant w < 2 ^ 40
+  time-small =
       let r = range in
       let milliseconds : millisecond w < 1000 = let f = digits in omega arith in
       let sixteenths : sixteenth w < 16 = omega arith in
       bound (day w) (hour w) (minute w) (second w) (millisecond w) (sixteenth w) r milliseconds sixteenths
     where
-      bound : (d h m s ms x : ℕ) → InRange d h m s → ms < 1000 → x < 16 → ((((d * 24 + h) * 60 + m) * 60 + s) * 1000 + ms) * 16 + x < 256 ^ 8
+      bound : (d h m s ms x : ℕ) → InRange d h m s → ms < 1000 → x < 16 → ((((d * 24 + h) * 60 + m) * 60 + s) * 1000 + ms) * 16 + x < 2 ^ 40
       bound d h m s ms x r MS X = omega arith
 
 -- ---- the instant that was read
@@ -63,17 +63,20 @@ pub instant-is : (y : ℕ) (body code : List ℕ) (d : Decoded) → code ≡ tim
 unfolding instantOf
 instant-is y body code d e f = ap instantIn (f ∙ ap (decoded y) e)
 
-pub instant-fits : (y : ℕ) (body : List ℕ) → instantOf y body < 256 ^ 8
+pub instant-small : (y : ℕ) (body : List ℕ) → instantOf y body < 2 ^ 40
 unfolding instantOf
-instant-fits y body = go (decoded y (timeBytes body)) refl
+instant-small y body = go (decoded y (timeBytes body)) refl
   where
-    go : (d : Decoded) → decoded y (timeBytes body) ≡ d → instantIn d < 256 ^ 8
+    go : (d : Decoded) → decoded y (timeBytes body) ≡ d → instantIn d < 2 ^ 40
     go (time.Time t) e =
         let a = to-accepted y (timeBytes body) t e in
-        let f = time-fits y (timeBytes body) (a .is-time) in
+        let f = time-small y (timeBytes body) (a .is-time) in
         let same = ap (λ (u : _). u .instant) (a .is-read) in
         omega arith
     go (time.Refused n) e = omega arith
+
+pub instant-fits : (y : ℕ) (body : List ℕ) → instantOf y body < 256 ^ 8
+instant-fits y body = omega (arith, instant-small y body)
 
 -- ---- a cycle has a time code, so that its instant is never the 0 of a refused one
 

@@ -1,0 +1,4 @@
+pub mod Refusals
+pub mod Instants
+pub mod Columns
+pub mod Known
