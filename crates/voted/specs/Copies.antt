@@ -3,6 +3,7 @@ use mathlib.Core.Path.{_≡_}
 use mathlib.Core.List.{List, [], _∷_, map}
 use Prim.Native.Nat.{ℕ, _+_, _*_, _<_}
 use lib.Dec.{eqb}
+use lib.ListN.{getD}
 use Rattle.base.specs.Lists.{one, sumBy, countBy}
 use Rattle.labelling.specs.declared.Weak.{Weak}
 use Rattle.labelling.specs.declared.Word.{Word}
@@ -17,6 +18,10 @@ pub record Copies : Type 0 where
 
 abbrev pub copies : ℕ → ℕ → ℕ → Copies
 copies a b c = record { first = a; second = b; third = c }
+
+-- the three bytes of the piece p after place i
+abbrev pub copiesAt : List ℕ → ℕ → Copies
+copiesAt p i = copies (getD p (i + 1) 0) (getD p (i + 2) 0) (getD p (i + 3) 0)
 
 -- ---- one group
 

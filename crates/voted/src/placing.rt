@@ -49,7 +49,7 @@ fn is_spaced(piece: &[u8], at: usize) -> bool
 // Where cells end: at the last place, or where the piece has no whole one.
 fn stop_of(piece: &[u8], from: usize, placed: usize) -> usize
     requires { ⌜ placed ≤ 127 ⌝ }
-    ensures { λ r. ⌜ (r ≤ from + 9 * (127 - placed)) × (r + 8 ≤ from + 8 + (length (now (piece .entry)) - from)) ⌝ }
+    ensures { λ r. ⌜ (r ≤ from + 9 * (127 - placed)) × (r ≤ from + (length (now (piece .entry)) - 8 - from)) ⌝ }
 {
     let end = nominal::starts(piece, 9);
     if end <= from {
@@ -80,10 +80,7 @@ fn cells(piece: &[u8], before: Run, frame: &mut [u8; 128]) -> Run
                 sums: sums,
             };
         }
-        let a = piece[at + 1];
-        let b = piece[at + 2];
-        let c = piece[at + 3];
-        let agree = votes::agreeing(a, b, c);
+        let agree = votes::agreeing(piece, at);
         if agree == 0 {
             return Run {
                 at: at,
@@ -92,7 +89,7 @@ fn cells(piece: &[u8], before: Run, frame: &mut [u8; 128]) -> Run
                 sums: sums,
             };
         }
-        frame[p] = votes::word(a, b, c);
+        frame[p] = votes::word(piece, at);
         sums += agree;
         last = at;
         p += 1;
@@ -133,10 +130,7 @@ fn groups(piece: &[u8], before: Run, frame: &mut [u8; 128]) -> Run
                 sums: sums,
             };
         }
-        let a = piece[at + 1];
-        let b = piece[at + 2];
-        let c = piece[at + 3];
-        let agree = votes::agreeing(a, b, c);
+        let agree = votes::agreeing(piece, at);
         if agree == 0 {
             return Run {
                 at: at,
@@ -145,7 +139,7 @@ fn groups(piece: &[u8], before: Run, frame: &mut [u8; 128]) -> Run
                 sums: sums,
             };
         }
-        frame[p] = votes::word(a, b, c);
+        frame[p] = votes::word(piece, at);
         sums += agree;
         last = at;
         p += 1;

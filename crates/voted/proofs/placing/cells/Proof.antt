@@ -1,97 +1,88 @@
+-- `voted::placing::cells` meets its contract: the run so far is kept, and one more cell at each turn. The position and the place go up together, so
+-- that one bound serves for both. Assumes nothing.
+use mathlib.Core.Path.{_≡_, refl, sym, _∙_}
+use Prim.Native.Nat.{_+_, _*_, _-_, _≤_}
+use native.Mathlib.Omega.{arith}
+use borrow.Author.Tests.{not-false}
+use Rattle.voted.specs.Copies.{copiesAt}
+use Rattle.voted.specs.Stretches.{RunsOn}
+use Rattle.voted.proofs.Agreeing.{agreement-few, voted-of}
+use Rattle.voted.proofs.Joining.{run, cell-fill, group-at, kept-group}
+use borrow.Author.Needs.{needs}
 use Rattle.voted.proofs.placing.cells.Statement.{statement}
 use Rattle.voted.proofs.placing.cells.Tie as tie
-use Rattle.voted.proofs.placing.cells.Reads as reads
-use Rattle.voted.proofs.placing.cells.Lts as lts
-use Rattle.voted.proofs.placing.is_spaced.Reads as is-spaced-reads
-use Rattle.voted.proofs.placing.stop_of.Reads as stop-of-reads
-use Rattle.voted.proofs.votes.agreeing.Reads as agreeing-reads
-use Rattle.voted.proofs.votes.word.Reads as word-reads
 
 abbrev Inv-loop : tie.InvT-loop
-Inv-loop piece frame₀ stop at₀ p₀ last₀ sums₀ frame at p last sums = ?
+Inv-loop piece frame₀ stop at₀ p₀ last₀ sums₀ frame at p last sums =
+    RunsOn piece (run at₀ p₀ last₀ sums₀) frame₀ (run at p last sums) frame × (at + 9 * p₀ ≡ at₀ + 9 * p) × (p₀ ≤ p)
 
 abbrev μ-loop : tie.MeasureT-loop
-μ-loop piece frame₀ stop at₀ p₀ last₀ sums₀ frame at p last sums = ?
+μ-loop piece frame₀ stop at₀ p₀ last₀ sums₀ frame at p last sums = stop - at
 
--- src/placing.rt:69:9
 stop-of-requires : tie.Need-stop-of-requires Inv-loop μ-loop
-stop-of-requires c κs = ?
+stop-of-requires c κs = c .before .pre .room
 
--- src/placing.rt:74:5
 loop-holds : tie.Need-loop-holds Inv-loop μ-loop
-loop-holds c = ?
+loop-holds c = (record { kept = λ i q f k. k; has-room = c .before .before .pre }, refl, omega arith)
 
--- src/placing.rt:75:13
 is-spaced-requires : tie.Need-is-spaced-requires Inv-loop μ-loop
-is-spaced-requires c κs = ?
+is-spaced-requires c κs = omega arith
 
--- src/placing.rt:76:13
 returns : tie.Need-returns Inv-loop μ-loop
-returns c = ?
+returns c = c .before .before .before .loop .inv .0
 
--- src/placing.rt:83:23
-add-a : tie.Need-add-a Inv-loop μ-loop
-add-a c = ?
-
--- src/placing.rt:83:17
-shared-slice-read-a : tie.Need-shared-slice-read-a Inv-loop μ-loop
-shared-slice-read-a c = ?
-
--- src/placing.rt:84:23
-add-b : tie.Need-add-b Inv-loop μ-loop
-add-b c = ?
-
--- src/placing.rt:84:17
-shared-slice-read-b : tie.Need-shared-slice-read-b Inv-loop μ-loop
-shared-slice-read-b c = ?
-
--- src/placing.rt:85:23
-add-c : tie.Need-add-c Inv-loop μ-loop
-add-c c = ?
-
--- src/placing.rt:85:17
-shared-slice-read-c : tie.Need-shared-slice-read-c Inv-loop μ-loop
-shared-slice-read-c c = ?
-
--- src/placing.rt:86:13
 agreeing-requires : tie.Need-agreeing-requires Inv-loop μ-loop
-agreeing-requires c κs = ?
+agreeing-requires c κs = omega arith
 
--- src/placing.rt:88:13
 returns-2 : tie.Need-returns-2 Inv-loop μ-loop
-returns-2 c = ?
+returns-2 c =
+    let spaced = c .before .before .before in
+    spaced .before .before .loop .inv .0
 
--- src/placing.rt:95:20
 word-requires : tie.Need-word-requires Inv-loop μ-loop
-word-requires c κs = ?
+word-requires c κs = omega arith
 
--- src/placing.rt:95:9
 element-write-frame : tie.Need-element-write-frame Inv-loop μ-loop
-element-write-frame c = ?
+element-write-frame c = omega arith
 
--- src/placing.rt:96:9
 add-sums : tie.Need-add-sums Inv-loop μ-loop
-add-sums c = ?
+add-sums c =
+    let tested = c .before .before in
+    let spaced = tested .before .before in
+    let k = spaced .before .before in
+    let g = copiesAt (k .before .before .before .args .piece .now) (k .loop .at) in
+    omega (arith, tested .agreeing .ensures, agreement-few g, k .loop .inv .0 .has-room .few, k .loop .inv .0 .has-room .room)
 
--- src/placing.rt:98:9
 add-p : tie.Need-add-p Inv-loop μ-loop
-add-p c = ?
+add-p c = omega arith
 
--- src/placing.rt:99:9
 add-at : tie.Need-add-at Inv-loop μ-loop
-add-at c = ?
+add-at c = omega arith
 
--- src/placing.rt:74:5
 loop-less : tie.Need-loop-less Inv-loop μ-loop
-loop-less c = ?
+loop-less c = omega arith
 
--- src/placing.rt:74:5
 loop-again : tie.Need-loop-again Inv-loop μ-loop
-loop-again c = ?
+loop-again c =
+    let tested = c .before .before in
+    let spaced = tested .before .before in
+    let turn = spaced .before .before in
+    let k = turn .loop in
+    let g = copiesAt (turn .before .before .before .args .piece .now) (k .at) in
+    let cell = spaced .is-spaced .ensures (not-false _ (tested .before .if1 .left)) in
+    let agree = tested .agreeing .ensures in
+    let voted = voted-of g (λ e. c .before .if2 .left (agree ∙ e)) in
+    let there = group-at (cell .sync) (omega arith) in (
+      record {
+        kept = λ i q f b. kept-group (k .inv .0 .kept i q f b) there voted (cell-fill cell) (c .word .ensures voted) agree;
+        has-room = record { room = omega arith; few = omega (arith, agree, agreement-few g, k .inv .0 .has-room .few) };
+      },
+      omega arith,
+      omega arith,
+    )
 
--- src/placing.rt:65:1
 returns-3 : tie.Need-returns-3 Inv-loop μ-loop
-returns-3 c = ?
+returns-3 c = c .before .loop .inv .0
 
 pub cells-spec : {M : Type 1} → statement M
 cells-spec =
@@ -103,12 +94,6 @@ cells-spec =
     loop-holds
     is-spaced-requires
     returns
-    add-a
-    shared-slice-read-a
-    add-b
-    shared-slice-read-b
-    add-c
-    shared-slice-read-c
     agreeing-requires
     returns-2
     word-requires

@@ -1,109 +1,135 @@
+-- `voted::placing::groups` meets its contract: the run so far is kept, and one more group with the FILL after it at each turn; it ends where the last
+-- place comes next, where no SYNC stands, where all copies differ, or where no whole group is left. Assumes nothing.
+use mathlib.Core.Path.{_≡_, refl, sym, _∙_}
+use Prim.Native.Nat.{_+_, _*_, _-_, _≤_}
+use native.Mathlib.Omega.{arith}
+use lib.ListN.{length}
+use Rattle.base.specs.Format.{SYNC, FILL}
+use Rattle.quiet.specs.Quiet.{Byte}
+use Rattle.nominal.proofs.Joining.{nominal-far, nominal-inside}
+use Rattle.voted.specs.Copies.{copiesAt}
+use Rattle.voted.specs.Stretches.{RunsOn, RunsOut, Stops}
+use Rattle.voted.proofs.Agreeing.{agreement-few, voted-of}
+use Rattle.voted.proofs.Joining.{run, past-fill, group-at, kept-fill, kept-group, stops-short, stops-unlike, stops-split, stops-left}
+use borrow.Author.Needs.{needs}
 use Rattle.voted.proofs.placing.groups.Statement.{statement}
 use Rattle.voted.proofs.placing.groups.Tie as tie
-use Rattle.voted.proofs.placing.groups.Reads as reads
-use Rattle.voted.proofs.placing.groups.Lts as lts
-use Rattle.nominal.proofs.skip_fill.Reads as skip-fill-reads
-use Rattle.nominal.proofs.starts.Reads as starts-reads
-use Rattle.voted.proofs.votes.agreeing.Reads as agreeing-reads
-use Rattle.voted.proofs.votes.word.Reads as word-reads
 
 abbrev Inv-loop : tie.InvT-loop
-Inv-loop piece frame₀ end at₀ p₀ last₀ sums₀ frame at p last sums = ?
+Inv-loop piece frame₀ end at₀ p₀ last₀ sums₀ frame at p last sums =
+    RunsOn piece (run at₀ p₀ last₀ sums₀) frame₀ (run at p last sums) frame × (Byte piece at FILL → ⊥)
 
 abbrev μ-loop : tie.MeasureT-loop
-μ-loop piece frame₀ end at₀ p₀ last₀ sums₀ frame at p last sums = ?
+μ-loop piece frame₀ end at₀ p₀ last₀ sums₀ frame at p last sums = length piece - at
 
--- src/placing.rt:114:9
 starts-requires : tie.Need-starts-requires Inv-loop μ-loop
-starts-requires c κs = ?
+starts-requires c κs = omega arith
 
--- src/placing.rt:115:9
 skip-fill-requires : tie.Need-skip-fill-requires Inv-loop μ-loop
-skip-fill-requires c κs = ?
+skip-fill-requires c κs = search needs
 
--- src/placing.rt:119:5
 loop-holds : tie.Need-loop-holds Inv-loop μ-loop
-loop-holds c = ?
+loop-holds c =
+    let room = c .before .before .before .pre in
+    (record { kept = λ i q f k. k; has-room = record { room = room .room; few = room .few } }, c .skip-fill .ensures .no-fill)
 
--- src/placing.rt:121:13
 returns : tie.Need-returns Inv-loop μ-loop
-returns c = ?
+returns c =
+    let turn = c .before .before in
+    let k = turn .loop in
+    let begun = past-fill (turn .before .skip-fill .ensures .stretch) in
+    record {
+      runs-on = record { kept = λ i q f b. k .inv .0 .kept i q f (kept-fill b begun); has-room = k .inv .0 .has-room };
+      stops = stops-left (k .inv .1) (λ g. c .if1 .taken);
+    }
 
--- src/placing.rt:128:12
 shared-slice-read-if2 : tie.Need-shared-slice-read-if2 Inv-loop μ-loop
-shared-slice-read-if2 c = ?
+shared-slice-read-if2 c = omega arith
 
--- src/placing.rt:129:13
 returns-2 : tie.Need-returns-2 Inv-loop μ-loop
-returns-2 c = ?
+returns-2 c =
+    let tested = c .before .before in
+    let turn = tested .before .before in
+    let k = turn .loop in
+    let begun = past-fill (turn .before .skip-fill .ensures .stretch) in
+    record {
+      runs-on = record { kept = λ i q f b. k .inv .0 .kept i q f (kept-fill b begun); has-room = k .inv .0 .has-room };
+      stops = stops-unlike (k .inv .1) (c .if2 .taken);
+    }
 
--- src/placing.rt:136:23
-add-a : tie.Need-add-a Inv-loop μ-loop
-add-a c = ?
-
--- src/placing.rt:136:17
-shared-slice-read-a : tie.Need-shared-slice-read-a Inv-loop μ-loop
-shared-slice-read-a c = ?
-
--- src/placing.rt:137:23
-add-b : tie.Need-add-b Inv-loop μ-loop
-add-b c = ?
-
--- src/placing.rt:137:17
-shared-slice-read-b : tie.Need-shared-slice-read-b Inv-loop μ-loop
-shared-slice-read-b c = ?
-
--- src/placing.rt:138:23
-add-c : tie.Need-add-c Inv-loop μ-loop
-add-c c = ?
-
--- src/placing.rt:138:17
-shared-slice-read-c : tie.Need-shared-slice-read-c Inv-loop μ-loop
-shared-slice-read-c c = ?
-
--- src/placing.rt:139:13
 agreeing-requires : tie.Need-agreeing-requires Inv-loop μ-loop
-agreeing-requires c κs = ?
+agreeing-requires c κs = omega arith
 
--- src/placing.rt:141:13
 returns-3 : tie.Need-returns-3 Inv-loop μ-loop
-returns-3 c = ?
+returns-3 c =
+    let agreeing = c .before in
+    let tested = agreeing .before .before .before in
+    let turn = tested .before .before in
+    let k = turn .loop in
+    let begun = past-fill (turn .before .skip-fill .ensures .stretch) in
+    record {
+      runs-on = record { kept = λ i q f b. k .inv .0 .kept i q f (kept-fill b begun); has-room = k .inv .0 .has-room };
+      stops = stops-split (k .inv .1) (sym (agreeing .agreeing .ensures) ∙ c .if3 .taken);
+    }
 
--- src/placing.rt:148:20
 word-requires : tie.Need-word-requires Inv-loop μ-loop
-word-requires c κs = ?
+word-requires c κs = omega arith
 
--- src/placing.rt:148:9
 element-write-frame : tie.Need-element-write-frame Inv-loop μ-loop
-element-write-frame c = ?
+element-write-frame c = omega arith
 
--- src/placing.rt:149:9
 add-sums : tie.Need-add-sums Inv-loop μ-loop
-add-sums c = ?
+add-sums c =
+    let agreeing = c .before .before in
+    let tested = agreeing .before .before .before in
+    let turn = tested .before .before in
+    let room = turn .loop .inv .0 .has-room in
+    let g = copiesAt (turn .before .before .before .before .args .piece .now) (turn .loop .at) in
+    omega (arith, agreeing .agreeing .ensures, agreement-few g, room .few, room .room)
 
--- src/placing.rt:151:9
 add-p : tie.Need-add-p Inv-loop μ-loop
-add-p c = ?
+add-p c = omega arith
 
--- src/placing.rt:152:40
 add-skip-fill : tie.Need-add-skip-fill Inv-loop μ-loop
-add-skip-fill c = ?
+add-skip-fill c = omega arith
 
--- src/placing.rt:152:9
 skip-fill-requires-2 : tie.Need-skip-fill-requires-2 Inv-loop μ-loop
-skip-fill-requires-2 c κs = ?
+skip-fill-requires-2 c κs = search needs
 
--- src/placing.rt:119:5
 loop-less : tie.Need-loop-less Inv-loop μ-loop
-loop-less c = ?
+loop-less c =
+    let filled = c .skip-fill2 .ensures .stretch in
+    omega (arith, nominal-far filled, nominal-inside filled (omega arith))
 
--- src/placing.rt:119:5
 loop-again : tie.Need-loop-again Inv-loop μ-loop
-loop-again c = ?
+loop-again c =
+    let agreeing = c .before .before .before in
+    let tested = agreeing .before .before .before in
+    let turn = tested .before .before in
+    let k = turn .loop in
+    let room = k .inv .0 .has-room in
+    let p = turn .before .before .before .before .args .piece .now in
+    let g = copiesAt p (k .at) in
+    let agree = agreeing .agreeing .ensures in
+    let voted = voted-of g (λ e. c .before .before .if3 .left (agree ∙ e)) in
+    let sync : Byte p (k .at) SYNC = record { inside = omega arith; is = agreeing .before .if2 .left } in
+    let there = group-at sync (omega arith) in
+    let filled = c .skip-fill2 .ensures in (
+      record {
+        kept = λ i q f b. kept-group (k .inv .0 .kept i q f b) there voted (past-fill (filled .stretch)) (c .before .word .ensures voted) agree;
+        has-room = record { room = omega arith; few = omega (arith, agree, agreement-few g, room .few) };
+      },
+      filled .no-fill,
+    )
 
--- src/placing.rt:110:1
 returns-4 : tie.Need-returns-4 Inv-loop μ-loop
-returns-4 c = ?
+returns-4 c =
+    let k = c .before .loop in
+    let begun = past-fill (c .before .before .skip-fill .ensures .stretch) in
+    record {
+      runs-on = record { kept = λ i q f b. k .inv .0 .kept i q f (kept-fill b begun); has-room = k .inv .0 .has-room };
+      stops = stops-short (k .inv .1) (omega arith);
+    }
 
 pub groups-spec : {M : Type 1} → statement M
 groups-spec =
@@ -117,12 +143,6 @@ groups-spec =
     returns
     shared-slice-read-if2
     returns-2
-    add-a
-    shared-slice-read-a
-    add-b
-    shared-slice-read-b
-    add-c
-    shared-slice-read-c
     agreeing-requires
     returns-3
     word-requires

@@ -1,41 +1,44 @@
+-- `voted::placing::is_spaced` meets its contract: four FILL are one number. Assumes nothing.
+use mathlib.Core.Path.{sym}
+use mathlib.Core.Bool.{true≢false}
+use native.Mathlib.Omega.{arith}
+use borrow.Author.Tests.{eqb-true}
+use Rattle.nominal.proofs.Digits.{fill-of}
 use borrow.Author.Needs.{needs}
 use Rattle.voted.proofs.placing.is_spaced.Statement.{statement}
 use Rattle.voted.proofs.placing.is_spaced.Tie as tie
-use Rattle.voted.proofs.placing.is_spaced.Reads as reads
-use Rattle.voted.proofs.placing.is_spaced.Lts as lts
-use Rattle.nominal.proofs.four.Reads as four-reads
 
--- src/placing.rt:40:8
 shared-slice-read-if1 : tie.Need-shared-slice-read-if1
 shared-slice-read-if1 c = search needs
 
--- src/placing.rt:41:9
 returns : tie.Need-returns
-returns c = ?
+returns c = λ e. absurd (true≢false (sym e))
 
--- src/placing.rt:43:29
 add-four : tie.Need-add-four
 add-four c = search needs
 
--- src/placing.rt:43:8
 four-requires : tie.Need-four-requires
 four-requires c κs = search needs
 
--- src/placing.rt:44:9
 returns-2 : tie.Need-returns-2
-returns-2 c = ?
+returns-2 c = λ e. absurd (true≢false (sym e))
 
--- src/placing.rt:46:11
 add-result : tie.Need-add-result
 add-result c = search needs
 
--- src/placing.rt:46:5
 shared-slice-read-result : tie.Need-shared-slice-read-result
 shared-slice-read-result c = search needs
 
--- src/placing.rt:36:1
 returns-3 : tie.Need-returns-3
-returns-3 c = ?
+returns-3 c =
+    let filled = c .before in
+    let read = filled .before .before in
+    let s = read .before .before .before in
+    λ q. record {
+      sync = record { inside = omega (arith, s .pre); is = read .if1 .left };
+      four = fill-of (filled .before .four .ensures) (omega (arith, s .pre)) (filled .if2 .left);
+      fifth = record { inside = s .pre; is = eqb-true _ _ q };
+    }
 
 pub is-spaced-spec : {M : Type 1} → statement M
 is-spaced-spec =

@@ -1,0 +1,127 @@
+-- Voted stretches joined end to end, and one more group, or FILL, after them: a loop takes one more at each turn. Assumes nothing.
+use mathlib.Core.Path.{_≡_, refl, sym, _∙_}
+use mathlib.Core.List.{List, [], _∷_, _++_, append-nil}
+use Prim.Native.Nat.{ℕ, suc, _+_, _*_, _≤_, _<_}
+use native.Mathlib.Nat.{add-zero, add-suc, suc-add}
+use native.Mathlib.Omega.{arith}
+use lib.ListN.{length, length-append, getD, set}
+use lib.Seq.{sets}
+use Rattle.base.specs.Format.{SYNC, FILL}
+use Rattle.quiet.specs.Quiet.{Byte}
+use Rattle.nominal.specs.Stretches.{FourFill, Nominal}
+use Rattle.nominal.specs.Stretches as nominal
+use Rattle.nominal.proofs.Joining.{nominal-join, four-fill, one-fill}
+use Rattle.voted.specs.declared.placing.Run.{Run}
+use Rattle.voted.specs.Copies.{Copies, copies, copiesAt, IsVoted, wordOf, words, lastOr, agreement, agreements}
+use Rattle.voted.specs.Stretches.{Group, Spaced, Decided, ends, fill, group, LastAt, Stops, Kept}
+use Rattle.voted.proofs.Agreeing.{split-of}
+
+-- ---- voted stretches
+
+module _ {p : List ℕ} where
+  pub decided-join : {i j k : ℕ} {gs hs : List Copies} → Decided p i j gs → Decided p j k hs → Decided p i k (gs ++ hs)
+  decided-join ends m = m
+  decided-join (fill b n) m = fill b (decided-join n m)
+  decided-join (group g s v n) m = group g s v (decided-join n m)
+
+  -- four bytes for each group, at the least; and not past the end
+  pub decided-far : {i j : ℕ} {gs : List Copies} → Decided p i j gs → i + 4 * length gs ≤ j
+  decided-far ends = omega arith
+  decided-far (fill b n) = omega (arith, decided-far n)
+  decided-far (group g s v n) = omega (arith, decided-far n)
+
+  pub decided-inside : {i j : ℕ} {gs : List Copies} → Decided p i j gs → i ≤ length p → j ≤ length p
+  decided-inside ends h = h
+  decided-inside (fill b n) h = decided-inside n (omega (arith, b .inside))
+  decided-inside (group g s v n) h = decided-inside n (omega (arith, s .third .inside))
+
+  pub past-fill : {i j : ℕ} → Nominal p i j [] → Decided p i j []
+  past-fill nominal.ends = ends
+  past-fill (nominal.fill b n) = fill b (past-fill n)
+
+  -- the FILL of a cell
+  pub cell-fill : {i : ℕ} → Spaced p i → Decided p (i + 4) (i + 9) []
+  cell-fill {i} s =
+      past-fill (nominal-join (four-fill {j = i + 8} (omega arith) (s .four)) (one-fill {j = i + 9} (omega arith) (s .fifth)))
+
+-- SYNC stands at i, and three bytes follow it
+pub group-at : {p : List ℕ} {i : ℕ} → Byte p i SYNC → i + 3 < length p → Group p i (copiesAt p i)
+group-at s h = record {
+  sync = s;
+  first = record { inside = omega arith; is = refl };
+  second = record { inside = omega arith; is = refl };
+  third = record { inside = h; is = refl };
+}
+
+-- and no others
+pub copies-there : {p : List ℕ} {i : ℕ} {g : Copies} → Group p i g → g ≡ copiesAt p i
+copies-there {g = g} s = rw (s .first .is, s .second .is, s .third .is)
+
+-- ---- one group more
+
+words-last : (f : List ℕ) (q : ℕ) (gs : List Copies) (g : Copies) → sets f q (words (gs ++ g ∷ [])) ≡ set (sets f q (words gs)) (q + length gs) (wordOf g)
+words-last f q [] g = rw (add-zero q)
+words-last f q (x ∷ gs) g = words-last (set f q (wordOf x)) (suc q) gs g ∙ rw (suc-add q (length gs), add-suc q (length gs))
+
+agreements-last : (gs : List Copies) (g : Copies) → agreements (gs ++ g ∷ []) ≡ agreements gs + agreement g
+agreements-last [] g = omega arith
+agreements-last (x ∷ gs) g = omega (arith, agreements-last gs g)
+
+last-last : (gs : List Copies) (g d : Copies) → lastOr (gs ++ g ∷ []) d ≡ g
+last-last [] g d = refl
+last-last (x ∷ gs) g d = last-last gs g x
+
+abbrev pub run : ℕ → ℕ → ℕ → ℕ → Run
+run at placed last sums = record { at = at; placed = placed; last = last; sums = sums }
+
+module _ {p : List ℕ} where
+  pub kept-none : (i q : ℕ) (f : List ℕ) → Kept p i q f (run i q i 0) f
+  kept-none i q f = record {
+    groups = [];
+    stretch = ends;
+    place-is = omega arith;
+    frame-is = refl;
+    sums-are = refl;
+    last-at = λ d h. absurd (omega arith);
+  }
+
+  module _ {i q k l s : ℕ} {j : ℕ} {f f′ : List ℕ} (b : Kept p i q f (run j k l s) f′) where
+    pub kept-fill : {j′ : ℕ} → Decided p j j′ [] → Kept p i q f (run j′ k l s) f′
+    kept-fill n = record {
+      groups = b .groups;
+      stretch = rw (append-nil (b .groups)) at (decided-join (b .stretch) n);
+      place-is = b .place-is;
+      frame-is = b .frame-is;
+      sums-are = b .sums-are;
+      last-at = b .last-at;
+    }
+
+    pub kept-group : {j′ w a : ℕ} {g : Copies} → Group p j g → IsVoted g → Decided p (j + 4) j′ [] → w ≡ wordOf g → a ≡ agreement g
+        → Kept p i q f (run j′ (k + 1) j (s + a)) (set f′ k w)
+    kept-group {j′} {w} {a} {g} there v n ew ea = record {
+      groups = b .groups ++ g ∷ [];
+      stretch = decided-join (b .stretch) (group g there v n);
+      place-is = omega (arith, b .place-is, length-append (b .groups) (g ∷ []));
+      frame-is = rw (b .frame-is, b .place-is, ew) (sym (words-last f q (b .groups) g));
+      sums-are = omega (arith, b .sums-are, agreements-last (b .groups) g);
+      last-at = λ d h. rw (last-last (b .groups) g d) there;
+    }
+
+-- ---- where a voted stretch stops
+
+module _ {p : List ℕ} {j : ℕ} {Left : Copies → Type 0} (no-fill : Byte p j FILL → ⊥) where
+  -- no whole group is left
+  pub stops-short : length p < j + 4 → Stops p j Left
+  stops-short h = record { no-fill = no-fill; no-group = λ g s v. absurd (omega (arith, s .third .inside)) }
+
+  -- no group stands there
+  pub stops-unlike : (getD p j 0 ≡ SYNC → ⊥) → Stops p j Left
+  stops-unlike h = record { no-fill = no-fill; no-group = λ g s v. absurd (h (s .sync .is)) }
+
+  -- all three copies differ
+  pub stops-split : agreement (copiesAt p j) ≡ 0 → Stops p j Left
+  stops-split e = record { no-fill = no-fill; no-group = λ g s v. absurd (split-of (copiesAt p j) e (rw (copies-there s) at v)) }
+
+  -- a group may stand there, and is left
+  pub stops-left : ((g : Copies) → Left g) → Stops p j Left
+  stops-left left = record { no-fill = no-fill; no-group = λ g s v. left g }
