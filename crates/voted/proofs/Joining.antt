@@ -1,20 +1,21 @@
 -- Voted stretches joined end to end, and one more group, or FILL, after them: a loop takes one more at each turn. Assumes nothing.
 use mathlib.Core.Path.{_≡_, refl, sym, _∙_}
 use mathlib.Core.List.{List, [], _∷_, _++_, append-nil}
-use Prim.Native.Nat.{ℕ, suc, _+_, _*_, _≤_, _<_}
+use Prim.Native.Nat.{ℕ, suc, _+_, _*_, _-_, _≤_, _<_}
 use native.Mathlib.Nat.{add-zero, add-suc, suc-add}
 use native.Mathlib.Omega.{arith}
 use lib.ListN.{length, length-append, getD, set}
 use lib.Seq.{sets}
 use Rattle.base.specs.Format.{SYNC, FILL}
 use Rattle.quiet.specs.Quiet.{Byte}
-use Rattle.nominal.specs.Stretches.{FourFill, Nominal}
+use Rattle.labelling.specs.declared.Weak.{Weak}
+use Rattle.nominal.specs.Stretches.{FourFill, Nominal, lastPlace}
 use Rattle.nominal.specs.Stretches as nominal
 use Rattle.nominal.proofs.Joining.{nominal-join, four-fill, one-fill}
 use Rattle.voted.specs.declared.placing.Run.{Run}
-use Rattle.voted.specs.Copies.{Copies, copies, copiesAt, IsVoted, wordOf, words, lastOr, agreement, agreements}
-use Rattle.voted.specs.Stretches.{Group, Spaced, Decided, ends, fill, group, LastAt, Stops, Kept}
-use Rattle.voted.proofs.Agreeing.{split-of}
+use Rattle.voted.specs.Copies.{Copies, copies, copiesAt, IsVoted, wordOf, words, weakIn, lastOr, agreement, agreements, Summed}
+use Rattle.voted.specs.Stretches.{Group, Spaced, Decided, ends, fill, group, LastAt, Stops, Kept, Longest, noGroup, Placed}
+use Rattle.voted.proofs.Agreeing.{split-of, alike, summed-of}
 
 -- ---- voted stretches
 
@@ -125,3 +126,61 @@ module _ {p : List ℕ} {j : ℕ} {Left : Copies → Type 0} (no-fill : Byte p j
   -- a group may stand there, and is left
   pub stops-left : ((g : Copies) → Left g) → Stops p j Left
   stops-left left = record { no-fill = no-fill; no-group = λ g s v. left g }
+
+-- ---- the whole stretch
+
+pub placed-none : {p : List ℕ} {i j q : ℕ} {f : List ℕ} → Decided p i j [] → Stops p j (λ g. lastPlace ≤ q) → Placed p i q f (noGroup j q) f
+placed-none n s = record {
+  groups = [];
+  stretch = n;
+  place-is = omega arith;
+  room = λ h. h;
+  frame-is = refl;
+  weak-is = refl;
+  first-is = λ d h. absurd (omega arith);
+  second-is = λ d h. absurd (omega arith);
+  stops = s;
+}
+
+module _ {p : List ℕ} {i q : ℕ} {f : List ℕ} {r : Run} {f′ : List ℕ} (l : Longest p i q f r f′) where
+  -- no group
+  pub placed-empty : r .placed ≡ q → Placed p i q f (noGroup (r .at) q) f′
+  placed-empty e = go (l .kept .groups) (omega (arith, l .kept .place-is)) (l .kept .stretch) (l .kept .frame-is)
+    where
+      go : (gs : List Copies) → length gs ≡ 0 → Decided p i (r .at) gs → f′ ≡ sets f q (words gs) → Placed p i q f (noGroup (r .at) q) f′
+      go [] z n ef = rw ef (placed-none n (rw e at (l .stops)))
+      go (g ∷ gs) z n ef = absurd (omega arith)
+
+  -- some
+  module _ (some : r .placed ≡ q → ⊥) where
+    some-groups : 0 < length (l .kept .groups)
+    some-groups = omega (arith, l .kept .place-is, some)
+
+    pub last-inside : r .last + 3 < length p
+    last-inside = l .kept .last-at (copies 0 0 0) some-groups .third .inside
+
+    pub run-summed : {n : ℕ} → n ≡ r .placed - q → Summed (r .sums) n (weakIn (l .kept .groups)) (alike (l .kept .groups))
+    run-summed {n} e =
+        let k = l .kept in
+        let room = l .has-room .room in
+        let s = summed-of (k .stretch) (omega (arith, k .place-is)) in
+        let count : n ≡ length (k .groups) = omega (arith, k .place-is) in
+        rw (k .sums-are, count) s
+
+    pub placed-some : {w : Weak} → w ≡ weakIn (l .kept .groups)
+        → Placed p i q f
+        record { at = r .at; placed = r .placed; weak = w; first = getD p (r .last + 1) 0; second = getD p (r .last + 2) 0 }
+        f′
+    placed-some e =
+        let k = l .kept in
+        record {
+          groups = k .groups;
+          stretch = k .stretch;
+          place-is = k .place-is;
+          room = λ h. l .has-room .room;
+          frame-is = k .frame-is;
+          weak-is = e;
+          first-is = λ d h. k .last-at d h .first .is;
+          second-is = λ d h. k .last-at d h .second .is;
+          stops = l .stops;
+        }

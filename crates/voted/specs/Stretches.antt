@@ -69,7 +69,17 @@ pub record RunsOut (p : List ℕ) (r : Run) (f : List ℕ) (r′ : Run) (f′ : 
   pub runs-on : RunsOn p r f r′ f′
   pub stops : Stops p (r′ .at) (λ g. lastPlace ≤ r′ .placed)
 
+-- a stretch from i, with the run that it leads to, from where it cannot go on
+pub record Longest (p : List ℕ) (i q : ℕ) (f : List ℕ) (r : Run) (f′ : List ℕ) : Type 0 where
+  pub kept : Kept p i q f r f′
+  pub has-room : RunRoom r
+  pub stops : Stops p (r .at) (λ g. lastPlace ≤ r .placed)
+
 -- ---- while words are placed: the whole
+
+-- what is told of a stretch with no group
+abbrev pub noGroup : ℕ → ℕ → Filled
+noGroup at q = record { at = at; placed = q; weak = weakIn []; first = 0; second = 0 }
 
 -- a voted stretch from i, whose words are placed, with what r tells; no longer stretch from i can be placed: it stops where the last place comes
 -- next, or where a voted stretch cannot go on

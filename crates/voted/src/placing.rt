@@ -3,7 +3,7 @@ ghost use Prim.Native.Nat.{_+_, _*_, _-_, _≤_, _<_};
 ghost use mathlib.Core.Path.{_≡_};
 ghost use mathlib.Core.Bool.{true};
 ghost use lib.ListN.{length};
-ghost use Rattle.voted.specs.Stretches.{Spaced, RunRoom, RunsOn, RunsOut, Placed};
+ghost use Rattle.voted.specs.Stretches.{Spaced, RunRoom, RunsOn, RunsOut, Longest, noGroup, Placed};
 use crate::votes;
 use base::format::FILL;
 use base::format::MINOR_FRAME;
@@ -153,43 +153,50 @@ fn groups(piece: &[u8], before: Run, frame: &mut [u8; 128]) -> Run
     }
 }
 
-// Puts the words of the voted stretch that begins at `from` into the frame from `start` on, all of them but one for the last place.
-pub fn place(piece: &[u8], from: usize, start: usize, frame: &mut [u8; 128]) -> Filled
-    ensures { λ r. ⌜ Placed (now (piece .entry)) from start (now (frame .entry)) r (now (frame .exit)) ⌝ }
+// The whole stretch: cells, once more after a sixth FILL, and groups.
+fn longest(piece: &[u8], from: usize, start: usize, frame: &mut [u8; 128]) -> Run
+    requires { ⌜ start ≤ 127 ⌝ }
+    ensures { λ r. ⌜ Longest (now (piece .entry)) from start (now (frame .entry)) r (now (frame .exit)) ⌝ }
 {
-    let at = nominal::skip_fill(piece, from);
+    let begun = Run {
+        at: from,
+        placed: start,
+        last: from,
+        sums: 0,
+    };
+    let mut first = cells(piece, begun, frame);
+    first.at = nominal::skip_fill(piece, first.at);
+    groups(piece, cells(piece, first, frame), frame)
+}
+
+// No group: FILL alone.
+fn no_group(at: usize, start: usize) -> Filled
+    ensures { λ r. ⌜ r ≡ noGroup at start ⌝ }
+{
     let none = Weak {
         first: 0,
         second: 0,
         third: 0,
     };
-    if LAST_PLACE <= start {
-        return Filled {
-            at: at,
-            placed: start,
-            weak: none,
-            first: 0,
-            second: 0,
-        };
-    }
-    let begun = Run {
+    Filled {
         at: at,
         placed: start,
-        last: at,
-        sums: 0,
-    };
-    let mut first = cells(piece, begun, frame);
-    // Once more, after a sixth FILL.
-    first.at = nominal::skip_fill(piece, first.at);
-    let r = groups(piece, cells(piece, first, frame), frame);
+        weak: none,
+        first: 0,
+        second: 0,
+    }
+}
+
+// Puts the words of the voted stretch that begins at `from` into the frame from `start` on, all of them but one for the last place.
+pub fn place(piece: &[u8], from: usize, start: usize, frame: &mut [u8; 128]) -> Filled
+    ensures { λ r. ⌜ Placed (now (piece .entry)) from start (now (frame .entry)) r (now (frame .exit)) ⌝ }
+{
+    if LAST_PLACE <= start {
+        return no_group(nominal::skip_fill(piece, from), start);
+    }
+    let r = longest(piece, from, start, frame);
     if r.placed == start {
-        return Filled {
-            at: r.at,
-            placed: start,
-            weak: none,
-            first: 0,
-            second: 0,
-        };
+        return no_group(r.at, start);
     }
     let last = r.last;
     Filled {
