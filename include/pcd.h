@@ -129,6 +129,11 @@ uint8_t pcd_fresh(uint64_t rule, uint64_t numbers[PCD_NUMBERS], uint8_t frame[PC
 uint8_t pcd_take(uint64_t numbers[PCD_NUMBERS], uint8_t frame[PCD_MINOR_FRAME], const uint8_t *piece, size_t piece_len, uint8_t *area,
                  size_t area_len, uint64_t answer[2]);
 
+/* As pcd_take, but the call also stops just after the byte that ends a hunt. answer[0] is how many bytes were taken, answer[1] whether a major
+ * frame is complete, answer[2] whether a hunt has ended; where neither is, the whole piece was taken. Refused as pcd_take of the whole piece. */
+uint8_t pcd_take_to_lock(uint64_t numbers[PCD_NUMBERS], uint8_t frame[PCD_MINOR_FRAME], const uint8_t *piece, size_t piece_len, uint8_t *area,
+                         size_t area_len, uint64_t answer[3]);
+
 /* Puts an operator on duty, 0 to 7, and changes nothing else: the major frames that are complete from now on are paid to that operator.
  *
  * Refused: 1, as above; 14. Nothing is written. */

@@ -1,5 +1,6 @@
 // The reader's entries. A tally crosses as its numbers and its frame of 128 bytes, which the caller lends and gets back.
 ghost use Rattle.crossing.specs.Crossing.{lent, TakeCrossed, FreshCrossed, places, DutyCrossed};
+ghost use Rattle.crossing.specs.Locking.{LockCrossed};
 use crossing::NUMBERS;
 
 // Writes a fresh tally of this rule: 1, by bytes, or 2, by bits. Returns the number of the refusal, 0 for none; after a refusal the fresh tally of
@@ -26,6 +27,23 @@ pub extern "C" fn pcd_take(
         (lent (now (numbers .exit)) (now (frame .exit)) (now (area .exit)) (now (answer .exit))) ⌝ }
 {
     crossing::take(numbers, frame, piece, area, answer)
+}
+
+// As `pcd_take`, but it also stops just after the byte that ends a hunt. `answer` gets the bytes taken, then 1 where a major frame is complete, then
+// 1 where a hunt has ended.
+#[no_mangle]
+pub extern "C" fn pcd_take_to_lock(
+    numbers: &mut [u64; NUMBERS],
+    frame: &mut [u8; 128],
+    piece: &[u8],
+    area: &mut [u8],
+    answer: &mut [u64; 3],
+) -> u8
+    ensures { λ r. ⌜ LockCrossed
+        (lent (now (numbers .entry)) (now (frame .entry)) (now (area .entry)) (now (answer .entry))) (now (piece .entry)) r
+        (lent (now (numbers .exit)) (now (frame .exit)) (now (area .exit)) (now (answer .exit))) ⌝ }
+{
+    crossing::take_to_lock(numbers, frame, piece, area, answer)
 }
 
 // Puts an operator on duty. Returns the number of the refusal, 0 for none; a refusal writes nothing.

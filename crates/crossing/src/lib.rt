@@ -1,6 +1,7 @@
 // A tally as it crosses to programs in other languages: its numbers and the frame's 128 bytes, which the caller lends. An entry reads
 // them, calls the reader, and writes them back. No number is cut: numbers that are no tally's are refused as a tally not in order is.
 mod duty;
+mod lock;
 
 ghost use mathlib.Core.Path.{_≡_};
 ghost use mathlib.Core.Bool.{true};
@@ -18,6 +19,7 @@ use labelling::Operators;
 use labelling::Runs;
 use labelling::Tally;
 use labelling::Weak;
+pub use lock::take_to_lock;
 
 // How many numbers a tally crosses as.
 pub const NUMBERS: usize = 33;

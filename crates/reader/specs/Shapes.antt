@@ -1,14 +1,21 @@
--- The reader's own structs in the terms of the labelling, and what `take` and `change_duty` promise. Definitions only.
+-- The reader's own structs in the terms of the labelling, and what `take`, `take_to_lock` and `change_duty` promise. Definitions only.
 use mathlib.Core.Path.{_≡_}
-use mathlib.Core.Bool.{true, false}
+use mathlib.Core.Bool.{Bool, true, false, not, _&&_, _||_}
 use mathlib.Core.List.{List}
-use Prim.Native.Nat.{ℕ, _≤_, _<_}
+use Prim.Native.Nat.{ℕ, suc, _+_, _≤_, _<_}
+use lib.Dec.{eqb}
 use lib.ListN.{length}
+use Rattle.base.specs.Lists.{one}
+use Rattle.labelling.specs.declared.Framing.{Framing}
 use Rattle.labelling.specs.declared.Tally.{Tally}
+use Rattle.labelling.specs.Votes.{ruleVote}
+use Rattle.labelling.specs.Machine.{stateOf}
 use Rattle.labelling.specs.Order.{inOrder}
 use Rattle.labelling.specs.Calls.{TakeCall, takeRefusal, Answer, Progress, answer, DutyCall, dutyRefusal, dutyAnswer}
+use Rattle.own_sync.specs.Locks.{locks, upTo, toLock}
 use Rattle.plain_steps.specs.Shapes.{stateWith}
 use Rattle.reader.specs.declared.duty.DutyChanged.{DutyChanged}
+use Rattle.reader.specs.declared.Locked.{Locked}
 use Rattle.reader.specs.declared.run.Ran.{Ran}
 use Rattle.reader.specs.declared.Taken.{Taken}
 
@@ -36,6 +43,33 @@ pub record TakePromise (c : TakeCall) (r : Taken) (area : List ℕ) : Type 0 whe
   pub takes-some : r .complete ≡ true → 0 < r .taken
   -- from a tally in order a tally in order is left
   pub stays-ordered : inOrder (c .tally) ≡ true → inOrder (r .tally) ≡ true
+
+-- ---- a call that also stops at a lock
+
+-- a call, or its part as far as a lock, where that stops it
+abbrev pub partOf : Bool → TakeCall → TakeCall
+partOf stop c = callOf (c .tally) (upTo (ruleVote (c .tally .rule)) stop (stateOf (c .tally)) (c .area) (c .piece)) (c .area)
+
+-- the call c, or its part: refused as the whole piece is, and else `take` of the part
+pub record PartPromise (stop : Bool) (c : TakeCall) (r : Taken) (area : List ℕ) : Type 0 where
+  pub refused : (n : ℕ) → takeRefusal c ≡ suc n → TakePromise c r area
+  pub accepted : takeRefusal c ≡ 0 → TakePromise (partOf stop c) r area
+
+-- how the code tells a lock, from the second layer before a call and after it
+abbrev pub lockedBy : Framing → Framing → Bool
+lockedBy before after = not (after .hunting) && (before .hunting || not (eqb (after .unsynced) (before .unsynced)))
+
+-- `take_to_lock` of the call c answers r and leaves the area: it is refused as the whole piece is, and else it is `take` of the part of the piece as
+-- far as the byte that ends a hunt
+pub record LockPromise (c : TakeCall) (r : Locked) (area : List ℕ) : Type 0 where
+  pub refusal-is : r .taken .refusal ≡ takeRefusal c
+  pub refused : (n : ℕ) → takeRefusal c ≡ suc n → TakePromise c (r .taken) area
+  pub accepted : takeRefusal c ≡ 0 → TakePromise (toLock c) (r .taken) area
+  -- whether a hunt has ended: of the hunts that have ended there is one more, or none
+  pub locked-is : locks (r .taken .tally .framing) ≡ locks (c .tally .framing) + one (r .locked)
+  -- all of the piece is taken, or some of it where a major frame is complete or a hunt has ended
+  pub takes-all : r .taken .refusal ≡ 0 → r .taken .complete ≡ false → r .locked ≡ false → r .taken .taken ≡ length (c .piece)
+  pub takes-some : r .locked ≡ true → 0 < r .taken .taken
 
 -- ---- a call that names an operator
 

@@ -13,7 +13,7 @@ ghost use Rattle.labelling.specs.Once.{FreshPromise};
 ghost use Rattle.labelling.specs.Order.{inOrder};
 ghost use Rattle.labelling.specs.Machine.{tallyOf, fresh as freshOf};
 ghost use Rattle.plain_steps.specs.Shapes.{stateWith};
-ghost use Rattle.reader.specs.Shapes.{callOf, refusedWith, TakePromise};
+ghost use Rattle.reader.specs.Shapes.{callOf, refusedWith, TakePromise, partOf, PartPromise, lockedBy, LockPromise};
 use base::format::MAJOR_FRAME;
 use base::refusal::NO_SUCH_RULE;
 use base::refusal::NOT_IN_ORDER;
@@ -43,6 +43,14 @@ pub struct Taken {
     // Whether a major frame is complete; the area holds it.
     pub complete: bool,
     pub tally: Tally,
+}
+
+// The answer of a call that also stops at a lock.
+pub struct Locked {
+    // As of `take`, but for how many bytes were taken: all, or as far as the byte that completes a major frame or ends a hunt.
+    pub taken: Taken,
+    // Whether a hunt has ended, with the last byte that was taken.
+    pub locked: bool,
 }
 
 // The answer where a fresh tally is asked for.
@@ -119,6 +127,32 @@ fn blank(rule: u64) -> Tally
 pub fn take(t: Tally, piece: &[u8], area: &mut [u8]) -> Taken
     ensures { λ r. ⌜ TakePromise (callOf t (now (piece .entry)) (now (area .entry))) r (now (area .exit)) ⌝ }
 {
+    take_part(t, piece, false, area)
+}
+
+// As `take`, but it also stops just after the byte that ends a hunt, and says so. It is refused where `take` of the whole piece is.
+pub fn take_to_lock(t: Tally, piece: &[u8], area: &mut [u8]) -> Locked
+    ensures { λ r. ⌜ LockPromise (callOf t (now (piece .entry)) (now (area .entry))) r (now (area .exit)) ⌝ }
+{
+    let r = take_part(t, piece, true, area);
+    let locked = has_locked(t.framing, r.tally.framing);
+    Locked {
+        taken: r,
+        locked: locked,
+    }
+}
+
+// Whether a call that stops where a hunt ends has ended one. A hunt that began within it shows in the unsynced frame before.
+fn has_locked(before: Framing, after: Framing) -> bool
+    ensures { λ r. ⌜ r ≡ lockedBy before after ⌝ }
+{
+    !after.hunting & (before.hunting | (after.unsynced != before.unsynced))
+}
+
+// One of the two, by whether a lock stops it.
+fn take_part(t: Tally, piece: &[u8], stop: bool, area: &mut [u8]) -> Taken
+    ensures { λ r. ⌜ PartPromise stop (callOf t (now (piece .entry)) (now (area .entry))) r (now (area .exit)) ⌝ }
+{
     if !in_order(t) {
         return refused(t, NOT_IN_ORDER);
     }
@@ -128,7 +162,7 @@ pub fn take(t: Tally, piece: &[u8], area: &mut [u8]) -> Taken
     if LIMIT - t.groups.bytes < piece.len() as u64 {
         return refused(t, TOO_MANY_BYTES);
     }
-    accepted(t, piece, area)
+    accepted(t, piece, stop, area)
 }
 
 fn refused(t: Tally, number: u8) -> Taken
@@ -143,9 +177,9 @@ fn refused(t: Tally, number: u8) -> Taken
 }
 
 // The tally is taken apart once a call, and a payment is booked once.
-fn accepted(t: Tally, piece: &[u8], area: &mut [u8]) -> Taken
+fn accepted(t: Tally, piece: &[u8], stop: bool, area: &mut [u8]) -> Taken
     requires { ⌜ (inOrder t ≡ true) × (length (now area) ≡ majorFrame) × (t .groups .bytes + length (now piece) ≤ 2 ^ 40) ⌝ }
-    ensures { λ r. ⌜ TakePromise (callOf t (now (piece .entry)) (now (area .entry))) r (now (area .exit)) ⌝ }
+    ensures { λ r. ⌜ TakePromise (partOf stop (callOf t (now (piece .entry)) (now (area .entry)))) r (now (area .exit)) ⌝ }
 {
     let groups = t.groups;
     let framing = t.framing;
@@ -156,7 +190,7 @@ fn accepted(t: Tally, piece: &[u8], area: &mut [u8]) -> Taken
         framing: framing,
         runs: runs,
     };
-    let r = run::run(t.rule, layers, piece, &mut frame, area);
+    let r = run::run(t.rule, stop, layers, piece, &mut frame, area);
     let left = r.layers;
     let operators = duty::booked(t.operators, r.complete);
     let tally = together(left, operators, t.rule, frame);

@@ -1,10 +1,12 @@
-// A piece, as far as the byte that completes a major frame: stretches, and plain steps between them.
+// A piece, as far as the byte that completes a major frame, or that ends a hunt where that stops it: stretches, and plain steps between them.
 ghost use mathlib.Core.Path.{_≡_};
+ghost use mathlib.Core.Bool.{not, _&&_};
 ghost use Prim.Native.Nat.{_<_};
 ghost use lib.ListN.{length};
 ghost use Rattle.base.specs.Format.{majorFrame};
+ghost use Rattle.labelling.specs.Votes.{ruleVote};
 ghost use Rattle.plain_steps.specs.Shapes.{stateWith};
-ghost use Rattle.reader.specs.Onward.{Begun, from, fed, Ahead};
+ghost use Rattle.reader.specs.Onward.{Begun, from, fed, halts, Ahead};
 ghost use Rattle.reader.specs.Shapes.{ranOf};
 use crate::stretch;
 use plain_steps::Layers;
@@ -61,22 +63,37 @@ fn advance(
     one_byte(rule, next, piece, r.at, frame, area)
 }
 
-// A piece from its first byte on.
-pub(crate) fn run(rule: u64, l: Layers, piece: &[u8], frame: &mut [u8; 128], area: &mut [u8]) -> Ran
+// Whether a call stops: a major frame is complete; or a hunt has ended, and that stops it.
+fn stops(stop: bool, complete: bool, before: bool, after: bool) -> bool
+    ensures { λ r. ⌜ r ≡ halts stop complete (before && not after) ⌝ }
+{
+    complete | (stop & (before & !after))
+}
+
+// A piece from its first byte on. A stretch ends no hunt, so that it is enough to look after each plain step.
+pub(crate) fn run(
+    rule: u64,
+    stop: bool,
+    l: Layers,
+    piece: &[u8],
+    frame: &mut [u8; 128],
+    area: &mut [u8],
+) -> Ran
     requires { ⌜ Begun (now piece) 0 (stateWith l (now frame)) × (length (now area) ≡ majorFrame) ⌝ }
-    ensures { λ r. ⌜ ranOf r (now (frame .exit)) (now (area .exit)) ≡ fed rule (now (piece .entry)) (from 0 l (now (frame .entry)) (now (area .entry))) ⌝ }
+    ensures { λ r. ⌜ ranOf r (now (frame .exit)) (now (area .exit)) ≡ fed (ruleVote rule) stop (now (piece .entry)) (from 0 l (now (frame .entry)) (now (area .entry))) ⌝ }
 {
     let mut next = l;
     let mut i: usize = 0;
     while i < piece.len() {
+        let hunting = next.framing.hunting;
         let s = advance(rule, next, piece, i, frame, area);
         next = s.layers;
         i = s.at;
-        if s.complete {
+        if stops(stop, s.complete, hunting, next.framing.hunting) {
             return Ran {
                 layers: next,
                 at: i,
-                complete: true,
+                complete: s.complete,
             };
         }
     }

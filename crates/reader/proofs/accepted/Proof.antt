@@ -3,11 +3,10 @@
 use mathlib.Core.Path.{refl, ap}
 use native.Mathlib.Omega.{arith}
 use denote.Ref.{now}
-use Rattle.labelling.proofs.CallLaws.{no-refusal}
 use Rattle.labelling.proofs.Ordered.{state-in-order}
 use Rattle.labelling.specs.Calls.{Progress, answerWith}
 use Rattle.order.proofs.Rooms.{duty-room}
-use Rattle.reader.proofs.Answers.{accepted-promise}
+use Rattle.reader.proofs.Answers.{accepted-promise, part-fits}
 use borrow.Author.Needs.{needs}
 use Rattle.reader.proofs.accepted.Statement.{statement}
 use Rattle.reader.proofs.accepted.Tie as tie
@@ -49,7 +48,7 @@ returns c =
     let ran = paid .before .before .before .before in
     let s = started ran in
     let a = s .args in
-    let q = no-refusal (a .t) (now (a .piece)) (now (a .area)) (s .pre .0) (s .pre .1) (s .pre .2) in
+    let q = part-fits (a .stop) (a .t) (now (a .piece)) (now (a .area)) (s .pre .0) (s .pre .1) (s .pre .2) in
     accepted-promise refl q
     (rw (c .together .ensures, paid .booked .ensures) (ap (λ (r : Progress). answerWith (a .t) r) (ran .run .ensures)))
 

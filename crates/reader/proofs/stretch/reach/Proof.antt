@@ -1,10 +1,10 @@
 -- `reader::stretch::reach` meets its contract: a nominal stretch, and then the first bytes of a group. Assumes nothing.
 use denote.Ref.{now}
-use Rattle.labelling.proofs.Votes.{unanimous}
+use Rattle.labelling.proofs.Votes.{majority}
 use Rattle.order.proofs.Rooms.{state-room}
 use Rattle.plain_steps.specs.Shapes.{stateWith}
 use Rattle.reader.specs.Onward.{Begun}
-use Rattle.reader.proofs.Onward.{none-onward, onward-begun, onward-join}
+use Rattle.reader.proofs.Onward.{none-onward, onward-begun, reaches-join}
 use borrow.Author.Needs.{needs}
 use Rattle.reader.proofs.stretch.reach.Statement.{statement}
 use Rattle.reader.proofs.stretch.reach.Tie as tie
@@ -15,7 +15,7 @@ module _ (c : tie.After-nominal-run) where
   start = c .before .before .before .before .before
 
   begun : Begun (now (start .args .piece)) (c .nominal-run .result .at) (stateWith (c .nominal-run .result .layers) (c .nominal-run .last .1 .1 .1 .0))
-  begun = onward-begun (c .nominal-run .ensures .0 _ (unanimous 1) (now (start .args .frame))) (start .pre)
+  begun = onward-begun (c .nominal-run .ensures .0 .onward _ (majority 1) (now (start .args .frame))) (start .pre)
 
 returns : tie.Need-returns
 returns c = none-onward (c .before .before .before .pre)
@@ -31,7 +31,7 @@ open-group-requires c κs =
 returns-2 : tie.Need-returns-2
 returns-2 c =
     let ran = c .before .before in
-    λ vote same a. onward-join (ran .nominal-run .ensures .0 vote same a) (c .open-group .ensures _ (begun ran) vote same a)
+    reaches-join (ran .nominal-run .ensures .0) (c .open-group .ensures _ (begun ran))
 
 pub reach-spec : {M : Type 1} → statement M
 reach-spec = tie.close (tie.spec returns nominal-run-requires open-group-requires returns-2)

@@ -1,0 +1,4 @@
+pub mod Locks
+pub mod OwnCut
+pub mod Relocking
+pub mod OwnOnce
