@@ -1,20 +1,23 @@
 -- Voted stretches as parts of a call: their counts added at once, and where they lead. Assumes nothing.
 use mathlib.Core.Path.{_≡_, refl, sym, ap, _∙_}
-use mathlib.Core.Bool.{false}
+use mathlib.Core.Bool.{true, false}
 use mathlib.Core.List.{List, [], _∷_}
 use Prim.Native.Nat.{ℕ, _+_, _*_, _-_, _≤_, _<_, _^_}
 use native.Mathlib.Nat.{add-zero}
 use native.Mathlib.Omega.{arith}
 use lib.ListN.{length}
+use lib.Seq.{sets}
 use Rattle.labelling.specs.declared.Groups.{Groups}
 use Rattle.labelling.specs.declared.Weak.{Weak}
-use Rattle.nominal.specs.Effect.{withPlaced}
+use Rattle.nominal.specs.Effect.{withPlaced, withHunted}
+use Rattle.voted.specs.declared.hunting.Passed.{Passed}
 use Rattle.voted.specs.declared.placing.Filled.{Filled}
-use Rattle.voted.specs.Copies.{Copies, weakIn}
-use Rattle.voted.specs.Stretches.{Placed, Decided}
+use Rattle.voted.specs.Copies.{Copies, words, weakIn}
+use Rattle.voted.specs.Stretches.{Placed, Hunted}
 use Rattle.voted.specs.Effect.{held, withVoted}
 use Rattle.voted.proofs.Agreeing.{weak-few}
-use Rattle.voted.proofs.Effect.{placed-plain}
+use Rattle.voted.proofs.Effect.{placed-plain, hunted-plain}
+use Rattle.voted.proofs.Joining.{decided-far}
 use Rattle.plain_steps.specs.declared.layers.Layers.{Layers}
 use Rattle.plain_steps.specs.Shapes.{stateWith}
 use Rattle.reader.specs.Onward.{Begun, Reaches, VotedGroups, WeakRoom, bothWeak}
@@ -55,10 +58,29 @@ module _ {p : List ℕ} {i q : ℕ} {f : List ℕ} {r : Filled} {f′ : List ℕ
   pub placed-groups : {w : ℕ} → w ≡ r .placed - q → VotedGroups (s .groups) w (r .weak) (r .first) (r .second)
   placed-groups e = record { count-is = omega (arith, s .place-is); weak-is = s .weak-is; first-is = s .first-is; second-is = s .second-is }
 
+  pub placed-same : r .placed ≡ q → f′ ≡ f
+  placed-same e = s .frame-is ∙ go (s .groups) (omega (arith, s .place-is))
+    where
+      go : (gs : List Copies) → length gs ≡ 0 → sets f q (words gs) ≡ f
+      go [] z = refl
+      go (g ∷ gs) z = absurd (omega arith)
+
   pub placed-weak : length (s .groups) ≤ 2 ^ 40 → WeakRoom (r .weak)
   placed-weak h =
       let few = weak-few (s .stretch) in
       rw (s .weak-is) record { weak1-max = omega (arith, few .0); weak2-max = omega (arith, few .1); weak3-max = omega (arith, few .2) }
+
+module _ {p : List ℕ} {i : ℕ} {r : Passed} (s : Hunted p i r) where
+  pub hunted-groups : VotedGroups (s .groups) (r .count) (r .weak) (r .first) (r .second)
+  hunted-groups = record { count-is = s .count-is; weak-is = s .weak-is; first-is = s .first-is; second-is = s .second-is }
+
+  pub hunted-weak : length (s .groups) ≤ 2 ^ 40 → WeakRoom (r .weak)
+  hunted-weak h =
+      let few = weak-few (s .stretch) in
+      rw (s .weak-is) record { weak1-max = omega (arith, few .0); weak2-max = omega (arith, few .1); weak3-max = omega (arith, few .2) }
+
+  pub hunted-far : i + 4 * r .count ≤ r .at
+  hunted-far = omega (arith, decided-far (s .stretch), s .count-is)
 
 module _ {l : Layers} {frame p : List ℕ} {i : ℕ} (b : Begun p i (stateWith l frame)) (closed : l .groups .«open» ≡ 0) where
   pub voted-onward : {r : Filled} {frame′ : List ℕ} (s : Placed p i (l .framing .placed) frame r frame′) {g : Groups}
@@ -69,4 +91,14 @@ module _ {l : Layers} {frame p : List ℕ} {i : ℕ} (b : Begun p i (stateWith l
       (plain-onward
       (λ vote decides a.
       placed-plain decides {a = a} (s .stretch) (stateWith l frame) record { closed = closed; places = h; room = omega (arith, s .place-is, s .room few) })
+      refl refl b)
+
+  pub hunted-onward : {r : Passed} (s : Hunted p i r) {g : Groups} → l .framing .hunting ≡ true → l .framing .matched ≡ 0
+      → g ≡ withVoted (l .groups) (r .at - i) (s .groups)
+      → Reaches p i (stateWith l frame) (r .at) (stateWith (layersOf g (withHunted (l .framing) (r .count)) (l .runs)) frame)
+  hunted-onward s h m e =
+      rw (e, s .count-is)
+      (plain-onward
+      (λ vote decides a.
+      hunted-plain decides {a = a} (s .stretch) (stateWith l frame) record { closed = closed; hunts = h; unmatched = m; none-begins = s .none-begins })
       refl refl b)

@@ -11,12 +11,12 @@ ghost use Rattle.plain_steps.specs.Shapes.{stateWith};
 ghost use Rattle.reader.specs.Onward.{Fits, Begun, Reaches, ReachesAnyFrame, Words, VotedGroups, WeakRoom, bothWeak, opened as openedWith};
 ghost use Rattle.voted.specs.Copies.{Copies};
 ghost use Rattle.voted.specs.Effect.{withVoted};
-use base::format::MINOR_FRAME;
 use labelling::Groups;
 use labelling::Weak;
 use plain_steps::Layers;
 
-const LAST_PLACE: usize = MINOR_FRAME - 1;
+// The last place of a frame is left to the plain step.
+const LAST_PLACE: u64 = 127;
 
 // How far a stretch leads. Nothing is complete there.
 pub(crate) struct Reached {
@@ -129,7 +129,7 @@ fn place_run(l: Layers, piece: &[u8], at: usize, frame: &mut [u8; 128]) -> Reach
     }
 }
 
-// A voted stretch while words are placed. The last place is left to the plain step.
+// A voted stretch while words are placed.
 fn voted_run(l: Layers, piece: &[u8], at: usize, frame: &mut [u8; 128]) -> Reached
     requires { ⌜ Begun (now piece) at (stateWith l (now frame)) ⌝ }
     requires { ⌜ (l .groups .«open» ≡ 0) × (l .framing .hunting ≡ false) ⌝ }
@@ -137,10 +137,10 @@ fn voted_run(l: Layers, piece: &[u8], at: usize, frame: &mut [u8; 128]) -> Reach
     ensures { λ r. ⌜ r .layers .groups .«open» ≡ 0 ⌝ }
 {
     let start = l.framing.placed as usize;
-    if LAST_PLACE <= start {
+    let r = voted::place(piece, at, start, frame);
+    if r.placed == start {
         return Reached { layers: l, at: at };
     }
-    let r = voted::place(piece, at, start, frame);
     let mut next = l;
     next.groups = after_voted(
         l.groups,
@@ -157,15 +157,25 @@ fn voted_run(l: Layers, piece: &[u8], at: usize, frame: &mut [u8; 128]) -> Reach
     }
 }
 
-// What can be placed at once: groups of three equal copies, and from the first bad copy on voted ones.
+// What can be placed at once: groups of three equal copies, and from the first bad copy on voted ones. A bad copy seldom comes alone: where the last
+// group had one, nominal groups are not looked for.
 fn placed_run(l: Layers, piece: &[u8], at: usize, frame: &mut [u8; 128]) -> Reached
     requires { ⌜ Begun (now piece) at (stateWith l (now frame)) ⌝ }
     requires { ⌜ (l .groups .«open» ≡ 0) × (l .framing .hunting ≡ false) ⌝ }
     ensures { λ r. ⌜ Reaches (now (piece .entry)) at (stateWith l (now (frame .entry))) (r .at) (stateWith (r .layers) (now (frame .exit))) ⌝ }
     ensures { λ r. ⌜ r .layers .groups .«open» ≡ 0 ⌝ }
 {
+    if l.groups.first != l.groups.second {
+        return voted_run(l, piece, at, frame);
+    }
     let r = place_run(l, piece, at, frame);
     let next = r.layers;
+    if next.framing.placed == LAST_PLACE {
+        return Reached {
+            layers: next,
+            at: r.at,
+        };
+    }
     voted_run(next, piece, r.at, frame)
 }
 
@@ -191,6 +201,38 @@ fn hunt_run(l: Layers, piece: &[u8], at: usize) -> Reached
     }
 }
 
+// A voted stretch while the sync is hunted. Where some of it is matched already, the next word is left to the plain step.
+fn voted_hunt(l: Layers, piece: &[u8], at: usize) -> Reached
+    requires { ⌜ GroupsRoom (l .groups) × FramingRoom (l .framing) × Fits (l .groups) (now piece) at ⌝ }
+    requires { ⌜ (l .groups .«open» ≡ 0) × (l .framing .hunting ≡ true) ⌝ }
+    ensures { λ r. ⌜ ReachesAnyFrame (now (piece .entry)) at l (r .at) (r .layers) ⌝ }
+    ensures { λ r. ⌜ r .layers .groups .«open» ≡ 0 ⌝ }
+{
+    if l.framing.matched != 0 {
+        return Reached { layers: l, at: at };
+    }
+    let r = voted::pass(piece, at);
+    if r.count == 0 {
+        return Reached { layers: l, at: at };
+    }
+    let mut next = l;
+    next.groups = after_voted(
+        l.groups,
+        (r.at - at) as u64,
+        r.count,
+        r.weak,
+        r.first,
+        r.second,
+    );
+    let mut f = l.framing;
+    f.hunted += r.count;
+    next.framing = f;
+    Reached {
+        layers: next,
+        at: r.at,
+    }
+}
+
 // What is nominal or voted from `at` on. It may be nothing.
 fn nominal_run(l: Layers, piece: &[u8], at: usize, frame: &mut [u8; 128]) -> Reached
     requires { ⌜ Begun (now piece) at (stateWith l (now frame)) ⌝ }
@@ -199,7 +241,9 @@ fn nominal_run(l: Layers, piece: &[u8], at: usize, frame: &mut [u8; 128]) -> Rea
     ensures { λ r. ⌜ r .layers .groups .«open» ≡ 0 ⌝ }
 {
     if l.framing.hunting {
-        return hunt_run(l, piece, at);
+        let r = hunt_run(l, piece, at);
+        let next = r.layers;
+        return voted_hunt(next, piece, r.at);
     }
     placed_run(l, piece, at, frame)
 }

@@ -6,16 +6,18 @@ use native.Mathlib.Nat.{add-zero, add-suc, suc-add}
 use native.Mathlib.Omega.{arith}
 use lib.ListN.{length, length-append, getD, set}
 use lib.Seq.{sets}
-use Rattle.base.specs.Format.{SYNC, FILL}
+use Rattle.base.specs.Format.{SYNC, FILL, syncWord}
 use Rattle.quiet.specs.Quiet.{Byte}
 use Rattle.labelling.specs.declared.Weak.{Weak}
-use Rattle.nominal.specs.Stretches.{FourFill, Nominal, lastPlace}
+use Rattle.nominal.specs.Stretches.{FourFill, Nominal, lastPlace, NoneBegins, none, other}
 use Rattle.nominal.specs.Stretches as nominal
 use Rattle.nominal.proofs.Joining.{nominal-join, four-fill, one-fill}
+use Rattle.voted.specs.declared.hunting.Hunt.{Hunt}
 use Rattle.voted.specs.declared.placing.Run.{Run}
 use Rattle.voted.specs.Copies.{Copies, copies, copiesAt, IsVoted, wordOf, words, weakIn, lastOr, agreement, agreements, Summed}
 use Rattle.voted.specs.Stretches.{Group, Spaced, Decided, ends, fill, group, LastAt, Stops, Kept, Longest, noGroup, Placed}
-use Rattle.voted.proofs.Agreeing.{split-of, alike, summed-of}
+use Rattle.voted.specs.Stretches.{mostGroups, LeftTo, Sought, nonePassed, Hunted}
+use Rattle.voted.proofs.Agreeing.{agreement-few, split-of, alike, summed-of}
 
 -- ---- voted stretches
 
@@ -184,3 +186,105 @@ module _ {p : List ℕ} {i q : ℕ} {f : List ℕ} {r : Run} {f′ : List ℕ} (
           second-is = λ d h. k .last-at d h .second .is;
           stops = l .stops;
         }
+
+-- ---- hunted groups
+
+abbrev pub hunt : ℕ → ℕ → ℕ → ℕ → Hunt
+hunt at count last sums = record { at = at; count = count; last = last; sums = sums }
+
+-- the run so far, which may go on
+pub record Going (p : List ℕ) (i : ℕ) (r : Hunt) : Type 0 where
+  pub groups : List Copies
+  pub stretch : Decided p i (r .at) groups
+  pub none-begins : NoneBegins (words groups)
+  pub count-is : r .count ≡ length groups
+  pub most : r .count ≤ mostGroups
+  pub few : r .sums ≤ 0x100010001 * r .count
+  pub sums-are : r .sums ≡ agreements groups
+  pub last-at : LastAt p groups (r .last)
+
+none-last : (gs : List Copies) (g : Copies) → NoneBegins (words gs) → (wordOf g ≡ syncWord 0 → ⊥) → NoneBegins (words (gs ++ g ∷ []))
+none-last [] g n h = other h none
+none-last (x ∷ gs) g (other z n) h = other z (none-last gs g n h)
+
+module _ {p : List ℕ} where
+  pub going-none : {i j : ℕ} (l : ℕ) → Decided p i j [] → Going p i (hunt j 0 l 0)
+  going-none l n = record {
+    groups = [];
+    stretch = n;
+    none-begins = none;
+    count-is = refl;
+    most = omega arith;
+    few = omega arith;
+    sums-are = refl;
+    last-at = λ d h. absurd (omega arith);
+  }
+
+  module _ {i j k l s : ℕ} (b : Going p i (hunt j k l s)) where
+    pub going-on : {j′ a : ℕ} {g : Copies} → k < mostGroups → Group p j g → IsVoted g → (wordOf g ≡ syncWord 0 → ⊥) → Decided p (j + 4) j′ []
+        → a ≡ agreement g → Going p i (hunt j′ (k + 1) j (s + a))
+    going-on {j′} {a} {g} few there v h n ea = record {
+      groups = b .groups ++ g ∷ [];
+      stretch = decided-join (b .stretch) (group g there v n);
+      none-begins = none-last (b .groups) g (b .none-begins) h;
+      count-is = omega (arith, b .count-is, length-append (b .groups) (g ∷ []));
+      most = omega arith;
+      few = omega (arith, b .few, agreement-few g);
+      sums-are = omega (arith, b .sums-are, agreements-last (b .groups) g);
+      last-at = λ d h. rw (last-last (b .groups) g d) there;
+    }
+
+    pub sought : Stops p j (LeftTo k) → Sought p i (hunt j k l s)
+    sought stops = record {
+      groups = b .groups;
+      stretch = b .stretch;
+      none-begins = b .none-begins;
+      count-is = b .count-is;
+      most = b .most;
+      sums-are = b .sums-are;
+      last-at = b .last-at;
+      stops = stops;
+    }
+
+  -- the word is FA
+  pub stops-first : {j w v : ℕ} → (Byte p j FILL → ⊥) → v ≡ wordOf (copiesAt p j) → v ≡ syncWord 0 → Stops p j (LeftTo w)
+  stops-first no-fill e f = record { no-fill = no-fill; no-group = λ g s v h. rw (copies-there s) (sym e ∙ f) }
+
+module _ {p : List ℕ} {i : ℕ} {r : Hunt} (s : Sought p i r) where
+  -- no group
+  pub hunted-empty : r .count ≡ 0 → Hunted p i (nonePassed (r .at))
+  hunted-empty e = go (s .groups) (omega (arith, s .count-is)) (s .stretch)
+    where
+      go : (gs : List Copies) → length gs ≡ 0 → Decided p i (r .at) gs → Hunted p i (nonePassed (r .at))
+      go [] z n = record {
+        groups = [];
+        stretch = n;
+        none-begins = none;
+        count-is = refl;
+        weak-is = refl;
+        first-is = λ d h. absurd (omega arith);
+        second-is = λ d h. absurd (omega arith);
+        stops = rw e at (s .stops);
+      }
+      go (g ∷ gs) z n = absurd (omega arith)
+
+  pub hunt-summed : Summed (r .sums) (r .count) (weakIn (s .groups)) (alike (s .groups))
+  hunt-summed = rw (s .sums-are, s .count-is) (summed-of (s .stretch) (omega (arith, s .count-is, s .most)))
+
+  -- some
+  module _ (some : r .count ≡ 0 → ⊥) where
+    pub hunt-inside : r .last + 3 < length p
+    hunt-inside = s .last-at (copies 0 0 0) (omega (arith, s .count-is, some)) .third .inside
+
+    pub hunted-some : {w : Weak} → w ≡ weakIn (s .groups)
+        → Hunted p i record { at = r .at; count = r .count; weak = w; first = getD p (r .last + 1) 0; second = getD p (r .last + 2) 0 }
+    hunted-some e = record {
+      groups = s .groups;
+      stretch = s .stretch;
+      none-begins = s .none-begins;
+      count-is = s .count-is;
+      weak-is = e;
+      first-is = λ d h. s .last-at d h .first .is;
+      second-is = λ d h. s .last-at d h .second .is;
+      stops = s .stops;
+    }

@@ -4,12 +4,14 @@ use mathlib.Core.List.{List, [], _∷_}
 use Prim.Native.Nat.{ℕ, _+_, _*_, _≤_, _<_}
 use lib.ListN.{length}
 use lib.Seq.{sets}
-use Rattle.base.specs.Format.{SYNC, FILL}
+use Rattle.base.specs.Format.{SYNC, FILL, syncWord}
 use Rattle.quiet.specs.Quiet.{Byte}
-use Rattle.nominal.specs.Stretches.{FourFill, lastPlace}
+use Rattle.nominal.specs.Stretches.{FourFill, lastPlace, NoneBegins}
+use Rattle.voted.specs.declared.hunting.Hunt.{Hunt}
+use Rattle.voted.specs.declared.hunting.Passed.{Passed}
 use Rattle.voted.specs.declared.placing.Filled.{Filled}
 use Rattle.voted.specs.declared.placing.Run.{Run}
-use Rattle.voted.specs.Copies.{Copies, IsVoted, words, weakIn, lastOr, agreements}
+use Rattle.voted.specs.Copies.{Copies, IsVoted, wordOf, words, weakIn, lastOr, agreements}
 
 -- ---- the shapes
 
@@ -93,3 +95,39 @@ pub record Placed (p : List ℕ) (i q : ℕ) (f : List ℕ) (r : Filled) (f′ :
   pub first-is : (d : Copies) → 0 < length groups → r .first ≡ lastOr groups d .first
   pub second-is : (d : Copies) → 0 < length groups → r .second ≡ lastOr groups d .second
   pub stops : Stops p (r .at) (λ g. lastPlace ≤ r .placed)
+
+-- ---- while the sync is hunted and nothing is matched
+
+-- so many groups at most are taken at once
+abbrev pub mostGroups : ℕ
+mostGroups = 0xffff
+
+-- a group that is left to the plain step: its word is FA, with which the sync begins, or there are too many
+abbrev pub LeftTo : ℕ → Copies → Type 0
+LeftTo w g = w < mostGroups → wordOf g ≡ syncWord 0
+
+-- in a loop: a voted stretch from i with no word FA, and what the run r tells of it; from there it cannot go on
+pub record Sought (p : List ℕ) (i : ℕ) (r : Hunt) : Type 0 where
+  pub groups : List Copies
+  pub stretch : Decided p i (r .at) groups
+  pub none-begins : NoneBegins (words groups)
+  pub count-is : r .count ≡ length groups
+  pub most : r .count ≤ mostGroups
+  pub sums-are : r .sums ≡ agreements groups
+  pub last-at : LastAt p groups (r .last)
+  pub stops : Stops p (r .at) (LeftTo (r .count))
+
+-- what is told of a stretch with no group
+abbrev pub nonePassed : ℕ → Passed
+nonePassed at = record { at = at; count = 0; weak = weakIn []; first = 0; second = 0 }
+
+-- the whole: a voted stretch from i with no word FA, and what r tells of it; no longer stretch from i can be passed, but for their number
+pub record Hunted (p : List ℕ) (i : ℕ) (r : Passed) : Type 0 where
+  pub groups : List Copies
+  pub stretch : Decided p i (r .at) groups
+  pub none-begins : NoneBegins (words groups)
+  pub count-is : r .count ≡ length groups
+  pub weak-is : r .weak ≡ weakIn groups
+  pub first-is : (d : Copies) → 0 < length groups → r .first ≡ lastOr groups d .first
+  pub second-is : (d : Copies) → 0 < length groups → r .second ≡ lastOr groups d .second
+  pub stops : Stops p (r .at) (LeftTo (r .count))
