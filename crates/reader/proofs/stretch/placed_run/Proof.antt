@@ -1,34 +1,41 @@
+-- `reader::stretch::placed_run` meets its contract: a nominal stretch, and a voted one after it; or a voted one alone. Assumes nothing.
+use mathlib.Core.Path.{_∙_}
+use denote.Ref.{now}
+use Rattle.labelling.proofs.Votes.{majority}
+use Rattle.reader.proofs.Onward.{onward-begun, reaches-join}
 use borrow.Author.Needs.{needs}
 use Rattle.reader.proofs.stretch.placed_run.Statement.{statement}
 use Rattle.reader.proofs.stretch.placed_run.Tie as tie
-use Rattle.reader.proofs.stretch.placed_run.Reads as reads
-use Rattle.reader.proofs.stretch.placed_run.Lts as lts
-use Rattle.reader.proofs.stretch.place_run.Reads as place-run-reads
-use Rattle.reader.proofs.stretch.voted_run.Reads as voted-run-reads
 
--- src/stretch.rt:169:9
+abbrev start : tie.After-place-run → tie.Start
+start c = c .before .before .before .before .before
+
 voted-run-requires : tie.Need-voted-run-requires
 voted-run-requires c κs = search needs
 
--- src/stretch.rt:169:9
 returns : tie.Need-returns
 returns c = search needs
 
--- src/stretch.rt:171:9
 place-run-requires : tie.Need-place-run-requires
 place-run-requires c κs = search needs
 
--- src/stretch.rt:174:9
 returns-2 : tie.Need-returns-2
 returns-2 c = search needs
 
--- src/stretch.rt:179:5
 voted-run-requires-2 : tie.Need-voted-run-requires-2
-voted-run-requires-2 c κs = ?
+voted-run-requires-2 c κs =
+    let ran = c .before .before .before .before in
+    let s = start ran in
+    let reached = ran .place-run .ensures .0 in (
+      onward-begun (reached .onward _ (majority 1) (now (s .args .frame))) (s .pre .0),
+      (ran .place-run .ensures .1, reached .same-mode ∙ s .pre .1 .1),
+    )
 
--- src/stretch.rt:162:1
 returns-3 : tie.Need-returns-3
-returns-3 c = ?
+returns-3 c =
+    let last = c .before .before .before in
+    let ran = last .before .before in
+    (reaches-join (ran .place-run .ensures .0) (c .voted-run2 .ensures .0), c .voted-run2 .ensures .1)
 
 pub placed-run-spec : {M : Type 1} → statement M
 placed-run-spec =

@@ -1,38 +1,55 @@
+-- `reader::stretch::voted_hunt` meets its contract: the words that are passed are hunted by plain steps. Assumes nothing.
+use native.Mathlib.Omega.{arith}
+use Rattle.voted.proofs.Joining.{decided-inside}
+use Rattle.reader.proofs.Onward.{none-onward}
+use Rattle.reader.proofs.VotedOnward.{hunted-groups, hunted-weak, hunted-far, hunted-onward}
 use borrow.Author.Needs.{needs}
 use Rattle.reader.proofs.stretch.voted_hunt.Statement.{statement}
 use Rattle.reader.proofs.stretch.voted_hunt.Tie as tie
-use Rattle.reader.proofs.stretch.voted_hunt.Reads as reads
-use Rattle.reader.proofs.stretch.voted_hunt.Lts as lts
-use Rattle.reader.proofs.stretch.after_voted.Reads as after-voted-reads
-use Rattle.voted.proofs.pass.Reads as pass-reads
 
--- src/stretch.rt:212:9
+abbrev start : tie.After-pass → tie.Start
+start c = c .before .before .before .before
+
 returns : tie.Need-returns
-returns c = ?
+returns c = (λ frame b. none-onward b, c .before .before .before .pre .1 .0)
 
--- src/stretch.rt:214:9
 pass-requires : tie.Need-pass-requires
 pass-requires c κs = search needs
 
--- src/stretch.rt:216:9
 returns-2 : tie.Need-returns-2
-returns-2 c = ?
+returns-2 c = (λ frame b. none-onward b, start (c .before .before) .pre .1 .0)
 
--- src/stretch.rt:221:10
 sub-after-voted : tie.Need-sub-after-voted
-sub-after-voted c = ?
+sub-after-voted c = omega (arith, hunted-far (c .before .before .before .pass .ensures))
 
--- src/stretch.rt:219:5
 after-voted-requires : tie.Need-after-voted-requires
-after-voted-requires c κs = ?
+after-voted-requires c κs =
+    let passed = c .before .before .before in
+    let s = start passed in
+    let p = passed .pass .ensures in
+    let far = hunted-far p in
+    let inside = decided-inside (p .stretch) (s .pre .0 .2 .inside) in
+    let limit = s .pre .0 .2 .limit in
+    (s .pre .0 .0, omega arith, omega arith, hunted-weak p (omega (arith, p .count-is)))
 
--- src/stretch.rt:228:5
 add-f : tie.Need-add-f
-add-f c = ?
+add-f c =
+    let counted = c .before .before .before in
+    let passed = counted .before .before .before .before in
+    let s = start passed in
+    let p = passed .pass .ensures in
+    let far = hunted-far p in
+    let inside = decided-inside (p .stretch) (s .pre .0 .2 .inside) in
+    omega (arith, s .pre .0 .1 .hunted-max, s .pre .0 .2 .limit)
 
--- src/stretch.rt:205:1
 returns-3 : tie.Need-returns-3
-returns-3 c = ?
+returns-3 c =
+    let counted = c .before .before .before in
+    let passed = counted .before .before .before .before in
+    let s = start passed in
+    let p = passed .pass .ensures in
+    let g = counted .after-voted .ensures (p .groups) (hunted-groups p) in
+    (λ frame b. hunted-onward b (s .pre .1 .0) p (s .pre .1 .1) (passed .before .if1 .left) g, rw g (s .pre .1 .0))
 
 pub voted-hunt-spec : {M : Type 1} → statement M
 voted-hunt-spec =
