@@ -157,17 +157,13 @@ fn voted_run(l: Layers, piece: &[u8], at: usize, frame: &mut [u8; 128]) -> Reach
     }
 }
 
-// What can be placed at once: groups of three equal copies, and from the first bad copy on voted ones. A bad copy seldom comes alone: where the last
-// group had one, nominal groups are not looked for.
+// What can be placed at once: groups of three equal copies, and from the first bad copy on voted ones.
 fn placed_run(l: Layers, piece: &[u8], at: usize, frame: &mut [u8; 128]) -> Reached
     requires { ⌜ Begun (now piece) at (stateWith l (now frame)) ⌝ }
     requires { ⌜ (l .groups .«open» ≡ 0) × (l .framing .hunting ≡ false) ⌝ }
     ensures { λ r. ⌜ Reaches (now (piece .entry)) at (stateWith l (now (frame .entry))) (r .at) (stateWith (r .layers) (now (frame .exit))) ⌝ }
     ensures { λ r. ⌜ r .layers .groups .«open» ≡ 0 ⌝ }
 {
-    if l.groups.first != l.groups.second {
-        return voted_run(l, piece, at, frame);
-    }
     let r = place_run(l, piece, at, frame);
     let next = r.layers;
     if next.framing.placed == LAST_PLACE {

@@ -1,4 +1,4 @@
--- `reader::stretch::placed_run` meets its contract: a nominal stretch, and a voted one after it; or a voted one alone. Assumes nothing.
+-- `reader::stretch::placed_run` meets its contract: a nominal stretch, and a voted one after it. Assumes nothing.
 use mathlib.Core.Path.{_∙_}
 use denote.Ref.{now}
 use Rattle.labelling.proofs.Votes.{majority}
@@ -8,22 +8,16 @@ use Rattle.reader.proofs.stretch.placed_run.Statement.{statement}
 use Rattle.reader.proofs.stretch.placed_run.Tie as tie
 
 abbrev start : tie.After-place-run → tie.Start
-start c = c .before .before .before .before .before
-
-voted-run-requires : tie.Need-voted-run-requires
-voted-run-requires c κs = search needs
-
-returns : tie.Need-returns
-returns c = search needs
+start c = c .before .before .before
 
 place-run-requires : tie.Need-place-run-requires
 place-run-requires c κs = search needs
 
-returns-2 : tie.Need-returns-2
-returns-2 c = search needs
+returns : tie.Need-returns
+returns c = search needs
 
-voted-run-requires-2 : tie.Need-voted-run-requires-2
-voted-run-requires-2 c κs =
+voted-run-requires : tie.Need-voted-run-requires
+voted-run-requires c κs =
     let ran = c .before .before .before .before in
     let s = start ran in
     let reached = ran .place-run .ensures .0 in (
@@ -31,19 +25,11 @@ voted-run-requires-2 c κs =
       (ran .place-run .ensures .1, reached .same-mode ∙ s .pre .1 .1),
     )
 
-returns-3 : tie.Need-returns-3
-returns-3 c =
+returns-2 : tie.Need-returns-2
+returns-2 c =
     let last = c .before .before .before in
     let ran = last .before .before in
-    (reaches-join (ran .place-run .ensures .0) (c .voted-run2 .ensures .0), c .voted-run2 .ensures .1)
+    (reaches-join (ran .place-run .ensures .0) (c .voted-run .ensures .0), c .voted-run .ensures .1)
 
 pub placed-run-spec : {M : Type 1} → statement M
-placed-run-spec =
-    tie.close
-    (tie.spec
-    voted-run-requires
-    returns
-    place-run-requires
-    returns-2
-    voted-run-requires-2
-    returns-3)
+placed-run-spec = tie.close (tie.spec place-run-requires returns voted-run-requires returns-2)
