@@ -27,6 +27,7 @@ mod stream;
 mod tally;
 mod tuned;
 mod vcdu_header;
+mod voted;
 mod writer;
 
 use std::env;

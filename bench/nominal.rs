@@ -1,13 +1,14 @@
 // A streaming reader in safe Rust with the ideas for a fast proved one copied into it. A nominal group is SYNC and three equal copies, a
 // nominal cell such a group and five FILL: a cell or two groups are compared as one number, and the counts of a run are added once, from
-// how far it went. Outside groups, blocks of 64 bytes without SYNC are passed over. All else goes a group at a time, or a byte at a time
-// where a group lies across the end of a piece.
+// how far it went. From the first bad copy on, groups of which two copies are equal are voted without branches (voted.rs). Outside groups, blocks of
+// 64 bytes without SYNC are passed over. All else goes a group at a time, or a byte at a time where a group lies across the end of a piece.
 
 use crate::bytewise::{byte, group};
 use crate::tally::{Tally, FILL, FRAME, FRAME_SYNC, SYNC};
+use crate::voted;
 
-const GROUP: usize = 4;
-const CELL: usize = 9;
+pub const GROUP: usize = 4;
+pub const CELL: usize = 9;
 const BLOCK: usize = 64;
 
 // A group, two groups, the first eight bytes of a cell and eight FILL as numbers, first byte lowest, with 0 for each copy; x times COPIES is x
@@ -19,7 +20,9 @@ const FILL_BITS: u64 = u64::from_le_bytes([FILL; 8]);
 const COPIES: u32 = 0x0101_0100;
 
 // Takes the whole piece, or stops just after the byte that completes a major frame: the bytes taken, and whether one is complete.
+// As the proved reader does, it tests first that the tally is in order.
 pub fn take(t: &mut Tally, piece: &[u8], area: &mut [u8]) -> (usize, bool) {
+    assert!(t.in_order());
     let mut at = 0;
     while at < piece.len() {
         let (taken, complete) = step(t, &piece[at..], area);
@@ -36,11 +39,12 @@ fn step(t: &mut Tally, piece: &[u8], area: &mut [u8]) -> (usize, bool) {
         return (1, byte(t, piece[0], area));
     }
     let run = if t.hunting { hunt(t, piece) } else { place(t, piece) };
-    if run.bytes == 0 {
+    run.count(t);
+    let taken = run.bytes + voted::take(t, &piece[run.bytes..]);
+    if taken == 0 {
         return next_group(t, piece, area);
     }
-    run.count(t);
-    (run.bytes, false)
+    (taken, false)
 }
 
 // How far nominal groups and FILL go, how many groups they are, and the last one's word.
@@ -168,13 +172,13 @@ fn is_cell(c: &[u8]) -> bool {
 }
 
 #[inline(always)]
-fn eight(b: &[u8]) -> u64 {
+pub fn eight(b: &[u8]) -> u64 {
     u64::from_le_bytes(b[..8].try_into().unwrap())
 }
 
 // None and one by branches, which the processor foresees; more by eights, with what it has to wait for, a count of bits, at the end.
 #[inline(always)]
-fn leading_fill(piece: &[u8]) -> usize {
+pub fn leading_fill(piece: &[u8]) -> usize {
     if piece.first() != Some(&FILL) {
         return 0;
     }

@@ -12,6 +12,7 @@ mod stream;
 #[allow(dead_code)]
 mod tally;
 mod tuned;
+mod voted;
 
 use std::env;
 use std::fs;
@@ -24,9 +25,10 @@ use tally::{Tally, AREA, BY_BITS, BY_BYTES};
 
 const ROUNDS: usize = 5;
 const MIB: usize = 1 << 20;
-const STREAMS: [&str; 6] = ["five FILL", "no FILL", "five, bad", "one weak", "random", "as timed"];
+const STREAMS: [&str; 9] =
+    ["five FILL", "no FILL", "as timed", "five, bad", "same copy", "any copy", "one in ten", "1 in 100", "random"];
 // Those that are measured under the vote by bits.
-const STREAMS_BY_BITS: [&str; 5] = ["five FILL", "five, bad", "one weak", "all differ", "random"];
+const STREAMS_BY_BITS: [&str; 6] = ["five FILL", "five, bad", "same copy", "any copy", "all differ", "random"];
 
 type Take = fn(&mut Tally, &[u8], &mut [u8]) -> (usize, bool);
 
@@ -90,14 +92,10 @@ fn stream_of(name: &str, n: usize) -> Vec<u8> {
         "five FILL" => reel(n, || 5),
         "no FILL" => reel(n, || 0),
         "as timed" => reel(n, timed()),
-        // Every group has one copy that the two others outvote.
-        "one weak" => {
-            let mut bytes = reel(n, || 5);
-            for cell in bytes.chunks_exact_mut(9) {
-                cell[1 + r.below(3)] ^= 1 << r.below(8);
-            }
-            bytes
-        }
+        // A head drops the same copy of every group; or one copy of every group is bad, or of one group in ten, whichever it is.
+        "same copy" => scratched(n, 1, |_| 1),
+        "any copy" => scratched(n, 1, |r| r.below(3)),
+        "one in ten" => scratched(n, 10, |r| r.below(3)),
         // No two copies of a group are equal: each is wrong in a bit of its own.
         "all differ" => {
             let mut bytes = reel(n, || 5);
@@ -115,21 +113,38 @@ fn stream_of(name: &str, n: usize) -> Vec<u8> {
             bytes.truncate(n);
             bytes
         }
-        "five, bad" => {
-            let mut bytes = reel(n, || 5);
-            for b in bytes.iter_mut() {
-                if r.one_in(5000) {
-                    *b = r.byte();
-                }
-            }
-            bytes
-        }
+        "five, bad" => spoilt(n, 5000),
+        "1 in 100" => spoilt(n, 100),
         _ => {
             let mut bytes = vec![0; n];
             r.fill(&mut bytes);
             bytes
         }
     }
+}
+
+// Five FILL, with a bit wrong in one copy of one group in so many.
+fn scratched(n: usize, groups: usize, copy: impl Fn(&mut Random) -> usize) -> Vec<u8> {
+    let mut r = Random(3);
+    let mut bytes = reel(n, || 5);
+    for cell in bytes.chunks_exact_mut(9) {
+        if r.one_in(groups) {
+            cell[1 + copy(&mut r)] ^= 1 << r.below(8);
+        }
+    }
+    bytes
+}
+
+// Five FILL, with one byte in so many bad.
+fn spoilt(n: usize, rate: usize) -> Vec<u8> {
+    let mut r = Random(3);
+    let mut bytes = reel(n, || 5);
+    for b in bytes.iter_mut() {
+        if r.one_in(rate) {
+            *b = r.byte();
+        }
+    }
+    bytes
 }
 
 // The FILL after each word as the book times it (DFCB 3.2.7.1): a word's cycle is 250 microseconds and a read 27.7652, which makes 9.004

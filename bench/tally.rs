@@ -7,6 +7,9 @@ pub const FRAME: usize = 128;
 pub const NUMBER_PLACE: usize = 65;
 pub const AREA: usize = 16_384;
 
+// The most that a count may be.
+const LIMIT: u64 = 1 << 40;
+
 // A tally crosses as so many numbers and its frame.
 pub const NUMBERS: usize = 33;
 
@@ -77,6 +80,30 @@ impl Tally {
             rule,
             frame: [0; FRAME],
         }
+    }
+
+    // Papers 01 and 02: each count within the limit, the sums, and what goes with hunting, the operators and the rule.
+    #[inline(never)]
+    pub fn in_order(&self) -> bool {
+        let within = |counts: &[u64]| counts.iter().all(|&n| n <= LIMIT);
+        within(&[self.bytes, self.fill, self.stray, self.voted, self.split, self.hunted, self.good, self.damaged, self.unsynced])
+            && within(&[self.majors, self.broken, self.loose])
+            && within(&self.weak)
+            && within(&self.paid)
+            && self.open <= 3
+            && self.placed < FRAME as u64
+            && self.building < FRAME as u64
+            && self.matched <= 2
+            && (self.hunting || self.matched == 0)
+            && !(self.hunting && (self.placed != 0 || self.building != 0))
+            && !(self.erasure && self.placed == 0)
+            && self.bytes == self.fill + self.stray + 4 * (self.voted + self.split) + self.open
+            && self.voted + self.split == self.hunted + FRAME as u64 * (self.good + self.damaged + self.unsynced) + self.placed
+            && self.good == FRAME as u64 * self.majors + self.broken + self.loose + self.building
+            && self.weak.iter().sum::<u64>() <= self.voted
+            && self.paid.iter().sum::<u64>() == self.majors
+            && self.duty < OPERATORS as u64
+            && (self.rule == BY_BYTES || self.rule == BY_BITS && self.split == 0)
     }
 
     // The numbers in the order in which they cross.

@@ -16,7 +16,7 @@ use Rattle.labelling.specs.declared.Groups.{Groups}
 use Rattle.labelling.specs.declared.Runs.{Runs}
 use Rattle.labelling.specs.declared.Word.{Word}
 use Rattle.labelling.specs.Words.{Vote}
-use Rattle.labelling.specs.Votes.{Unanimous}
+use Rattle.labelling.specs.Votes.{Unanimous, Majority}
 use Rattle.labelling.specs.MajorFrames.{value}
 use Rattle.labelling.specs.Machine.{ByteEvent, afterByte, State, Now, wordStep, wordGiven, byteEvent, byteStep}
 use Rattle.labelling.specs.Order.{stateInOrder}
@@ -164,7 +164,7 @@ goes-on : {A : Type 0} (stop l : Bool) (x y : A) → l ≡ false → cond (halts
 goes-on true l x y e = rw e
 goes-on false l x y e = refl
 
-pub plain-onward : {p : List ℕ} {i j : ℕ} {t u : State} → ((vote : Vote) → Unanimous vote → (a : List ℕ) → PlainSteps vote p a i t j u)
+pub plain-onward : {p : List ℕ} {i j : ℕ} {t u : State} → ((vote : Vote) → Majority vote → (a : List ℕ) → PlainSteps vote p a i t j u)
     → u .framing .unsynced ≡ t .framing .unsynced → u .framing .hunting ≡ t .framing .hunting → Begun p i t → Reaches p i t j u
 plain-onward {p} {i} {j} {t} {u} s unsynced mode b = record {
   onward = λ vote same a.
@@ -271,8 +271,12 @@ last-stored (x ∷ y ∷ vs) f q h s =
 
 -- ---- stretches
 
+-- three equal copies give their word where two decide
+all-agree : {vote : Vote} → Majority vote → Unanimous vote
+all-agree decides = record { all-three = λ x. decides .first-two x x }
+
 -- the layers with these parts
-abbrev layersOf : Groups → Framing → Runs → Layers
+abbrev pub layersOf : Groups → Framing → Runs → Layers
 layersOf g f r = record { groups = g; framing = f; runs = r }
 
 module _ {l : Layers} {frame p : List ℕ} {i : ℕ} (b : Begun p i (stateWith l frame)) where
@@ -298,14 +302,14 @@ module _ {l : Layers} {frame p : List ℕ} {i : ℕ} (b : Begun p i (stateWith l
     place-onward s h r e =
         rw (e, s .frame-is)
         (plain-onward
-        (λ vote same a. placed-plain same {a = a} (s .stretch) t record { closed = closed; places = h; room = omega (arith, s .place-is, s .room r) }) refl refl b)
+        (λ vote decides a. placed-plain (all-agree decides) {a = a} (s .stretch) t record { closed = closed; places = h; room = omega (arith, s .place-is, s .room r) }) refl refl b)
 
     pub hunt-onward : {j w x : ℕ} (s : Hunted p i j w x) {g : Groups} → l .framing .hunting ≡ true → l .framing .matched ≡ 0
         → g ≡ withWords (l .groups) (j - i) (s .words) → Reaches p i t j (stateWith (layersOf g (withHunted (l .framing) w) (l .runs)) frame)
     hunt-onward s h m e =
         rw (e, s .count-is)
         (plain-onward
-        (λ vote same a. hunted-plain same {a = a} (s .stretch) t record { closed = closed; hunts = h; unmatched = m; none-begins = s .none-begins }) refl refl b)
+        (λ vote decides a. hunted-plain (all-agree decides) {a = a} (s .stretch) t record { closed = closed; hunts = h; unmatched = m; none-begins = s .none-begins }) refl refl b)
 
     pub quiet-onward : {j k : ℕ} {g : Groups} → Quiet p i j k → g ≡ withQuiet (l .groups) (j - i) k
         → Reaches p i t j (stateWith (layersOf g (l .framing) (l .runs)) frame)

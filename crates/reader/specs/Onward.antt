@@ -6,13 +6,15 @@ use Prim.Native.Nat.{ℕ, _+_, _-_, _≤_, _<_, _^_}
 use lib.ListN.{length, drop}
 use Rattle.base.specs.Format.{minorFrame}
 use Rattle.labelling.specs.declared.Groups.{Groups}
+use Rattle.labelling.specs.declared.Weak.{Weak}
 use Rattle.labelling.specs.Machine.{State}
 use Rattle.labelling.specs.Words.{Vote}
-use Rattle.labelling.specs.Votes.{ruleVote, Unanimous}
+use Rattle.labelling.specs.Votes.{ruleVote, Majority}
 use Rattle.labelling.specs.Order.{stateInOrder}
 use Rattle.labelling.specs.Calls.{Progress, plus, feed}
 use Rattle.own_sync.specs.Locks.{endsHunt, upTo}
 use Rattle.nominal.specs.Stretches.{lastOr}
+use Rattle.voted.specs.Copies.{Copies, weakIn, lastOr as lastCopies}
 use Rattle.plain_steps.specs.declared.layers.Layers.{Layers}
 use Rattle.plain_steps.specs.Shapes.{stateWith}
 use Rattle.reader.specs.declared.run.Ran.{Ran}
@@ -78,10 +80,10 @@ pub record Ahead (rule : ℕ) (p : List ℕ) (m : Moment) (r : Ran) (frame area 
   pub onward : Onward (ruleVote rule) p m (ranTo r frame area) (r .complete)
   pub moves : m .at < r .at
 
--- a stretch leads from t at i to u at j under every vote that gives three equal copies their word: nothing is complete, no area is written, and no
--- hunt ends or begins
+-- a stretch leads from t at i to u at j under every vote that two equal copies decide: nothing is complete, no area is written, and no hunt
+-- ends or begins
 pub record Reaches (p : List ℕ) (i : ℕ) (t : State) (j : ℕ) (u : State) : Type 0 where
-  pub onward : (vote : Vote) → Unanimous vote → (a : List ℕ)
+  pub onward : (vote : Vote) → Majority vote → (a : List ℕ)
       → Onward vote p (record { at = i; state = t; area = a }) (record { at = j; state = u; area = a }) false
   pub same-mode : u .framing .hunting ≡ t .framing .hunting
 
@@ -95,6 +97,22 @@ ReachesAnyFrame p i l j m = (frame : List ℕ) → Begun p i (stateWith l frame)
 pub record Words (ws : List ℕ) (w x : ℕ) : Type 0 where
   pub count-is : w ≡ length ws
   pub last-is : 0 < w → x ≡ lastOr ws 0
+
+-- two counts of weak copies, and their sum
+pub record WeakRoom (w : Weak) : Type 0 where
+  pub weak1-max : w .first ≤ 2 ^ 40
+  pub weak2-max : w .second ≤ 2 ^ 40
+  pub weak3-max : w .third ≤ 2 ^ 40
+
+abbrev pub bothWeak : Weak → Weak → Weak
+bothWeak v w = record { first = v .first + w .first; second = v .second + w .second; third = v .third + w .third }
+
+-- the groups gs are w in number, with these weak copies; the first copies of the last of them are x and y, if there is one
+pub record VotedGroups (gs : List Copies) (w : ℕ) (weak : Weak) (x y : ℕ) : Type 0 where
+  pub count-is : w ≡ length gs
+  pub weak-is : weak ≡ weakIn gs
+  pub first-is : (d : Copies) → 0 < length gs → x ≡ lastCopies gs d .first
+  pub second-is : (d : Copies) → 0 < length gs → y ≡ lastCopies gs d .second
 
 -- the first layer with a group open whose first copies are x and y
 abbrev pub opened : Groups → ℕ → ℕ → Groups

@@ -1,4 +1,4 @@
-// Stretches of a piece, taken many bytes at a time: what the crates nominal and quiet find is added to the counts at once. It is what plain steps
+// Stretches of a piece, taken many bytes at a time: what the crates nominal, voted and quiet find is added to the counts at once. It is what plain steps
 // would have done.
 ghost use mathlib.Core.Path.{_≡_};
 ghost use mathlib.Core.Bool.{true, false};
@@ -8,9 +8,15 @@ ghost use lib.ListN.{getD};
 ghost use Rattle.nominal.specs.Effect.{withWords, withQuiet};
 ghost use Rattle.order.specs.Room.{GroupsRoom, FramingRoom};
 ghost use Rattle.plain_steps.specs.Shapes.{stateWith};
-ghost use Rattle.reader.specs.Onward.{Fits, Begun, Reaches, ReachesAnyFrame, Words, opened as openedWith};
+ghost use Rattle.reader.specs.Onward.{Fits, Begun, Reaches, ReachesAnyFrame, Words, VotedGroups, WeakRoom, bothWeak, opened as openedWith};
+ghost use Rattle.voted.specs.Copies.{Copies};
+ghost use Rattle.voted.specs.Effect.{withVoted};
 use labelling::Groups;
+use labelling::Weak;
 use plain_steps::Layers;
+
+// The last place of a frame is left to the plain step.
+const LAST_PLACE: u64 = 127;
 
 // How far a stretch leads. Nothing is complete there.
 pub(crate) struct Reached {
@@ -32,6 +38,35 @@ fn after_words(g: Groups, n: u64, w: u64, x: u8) -> Groups
     }
     next.first = x;
     next.second = x;
+    next
+}
+
+fn more_weak(w: Weak, more: Weak) -> Weak
+    requires { ⌜ WeakRoom w × WeakRoom more ⌝ }
+    ensures { λ r. ⌜ r ≡ bothWeak w more ⌝ }
+{
+    Weak {
+        first: w.first + more.first,
+        second: w.second + more.second,
+        third: w.third + more.third,
+    }
+}
+
+// n bytes more: FILL, and w voted groups with these weak copies; x and y are the first copies of the last of them.
+fn after_voted(g: Groups, n: u64, w: u64, weak: Weak, x: u8, y: u8) -> Groups
+    requires { ⌜ GroupsRoom g × (n ≤ 2 ^ 40) × (4 * w ≤ n) × WeakRoom weak ⌝ }
+    ensures { λ r. ⌜ ((gs : List Copies) → VotedGroups gs w weak x y → r ≡ withVoted g n gs) ⌝ }
+{
+    let mut next = g;
+    next.bytes += n;
+    next.fill += n - 4 * w;
+    next.voted += w;
+    if w == 0 {
+        return next;
+    }
+    next.weak = more_weak(g.weak, weak);
+    next.first = x;
+    next.second = y;
     next
 }
 
@@ -94,6 +129,52 @@ fn place_run(l: Layers, piece: &[u8], at: usize, frame: &mut [u8; 128]) -> Reach
     }
 }
 
+// A voted stretch while words are placed.
+fn voted_run(l: Layers, piece: &[u8], at: usize, frame: &mut [u8; 128]) -> Reached
+    requires { ⌜ Begun (now piece) at (stateWith l (now frame)) ⌝ }
+    requires { ⌜ (l .groups .«open» ≡ 0) × (l .framing .hunting ≡ false) ⌝ }
+    ensures { λ r. ⌜ Reaches (now (piece .entry)) at (stateWith l (now (frame .entry))) (r .at) (stateWith (r .layers) (now (frame .exit))) ⌝ }
+    ensures { λ r. ⌜ r .layers .groups .«open» ≡ 0 ⌝ }
+{
+    let start = l.framing.placed as usize;
+    let r = voted::place(piece, at, start, frame);
+    if r.placed == start {
+        return Reached { layers: l, at: at };
+    }
+    let mut next = l;
+    next.groups = after_voted(
+        l.groups,
+        (r.at - at) as u64,
+        (r.placed - start) as u64,
+        r.weak,
+        r.first,
+        r.second,
+    );
+    next.framing.placed = r.placed as u64;
+    Reached {
+        layers: next,
+        at: r.at,
+    }
+}
+
+// What can be placed at once: groups of three equal copies, and from the first bad copy on voted ones.
+fn placed_run(l: Layers, piece: &[u8], at: usize, frame: &mut [u8; 128]) -> Reached
+    requires { ⌜ Begun (now piece) at (stateWith l (now frame)) ⌝ }
+    requires { ⌜ (l .groups .«open» ≡ 0) × (l .framing .hunting ≡ false) ⌝ }
+    ensures { λ r. ⌜ Reaches (now (piece .entry)) at (stateWith l (now (frame .entry))) (r .at) (stateWith (r .layers) (now (frame .exit))) ⌝ }
+    ensures { λ r. ⌜ r .layers .groups .«open» ≡ 0 ⌝ }
+{
+    let r = place_run(l, piece, at, frame);
+    let next = r.layers;
+    if next.framing.placed == LAST_PLACE {
+        return Reached {
+            layers: next,
+            at: r.at,
+        };
+    }
+    voted_run(next, piece, r.at, frame)
+}
+
 // A nominal stretch while the sync is hunted. Where some of it is matched already, the next word is left to the plain step.
 fn hunt_run(l: Layers, piece: &[u8], at: usize) -> Reached
     requires { ⌜ GroupsRoom (l .groups) × FramingRoom (l .framing) × Fits (l .groups) (now piece) at ⌝ }
@@ -116,7 +197,39 @@ fn hunt_run(l: Layers, piece: &[u8], at: usize) -> Reached
     }
 }
 
-// What is nominal from `at` on. It may be nothing.
+// A voted stretch while the sync is hunted. Where some of it is matched already, the next word is left to the plain step.
+fn voted_hunt(l: Layers, piece: &[u8], at: usize) -> Reached
+    requires { ⌜ GroupsRoom (l .groups) × FramingRoom (l .framing) × Fits (l .groups) (now piece) at ⌝ }
+    requires { ⌜ (l .groups .«open» ≡ 0) × (l .framing .hunting ≡ true) ⌝ }
+    ensures { λ r. ⌜ ReachesAnyFrame (now (piece .entry)) at l (r .at) (r .layers) ⌝ }
+    ensures { λ r. ⌜ r .layers .groups .«open» ≡ 0 ⌝ }
+{
+    if l.framing.matched != 0 {
+        return Reached { layers: l, at: at };
+    }
+    let r = voted::pass(piece, at);
+    if r.count == 0 {
+        return Reached { layers: l, at: at };
+    }
+    let mut next = l;
+    next.groups = after_voted(
+        l.groups,
+        (r.at - at) as u64,
+        r.count,
+        r.weak,
+        r.first,
+        r.second,
+    );
+    let mut f = l.framing;
+    f.hunted += r.count;
+    next.framing = f;
+    Reached {
+        layers: next,
+        at: r.at,
+    }
+}
+
+// What is nominal or voted from `at` on. It may be nothing.
 fn nominal_run(l: Layers, piece: &[u8], at: usize, frame: &mut [u8; 128]) -> Reached
     requires { ⌜ Begun (now piece) at (stateWith l (now frame)) ⌝ }
     requires { ⌜ l .groups .«open» ≡ 0 ⌝ }
@@ -124,9 +237,11 @@ fn nominal_run(l: Layers, piece: &[u8], at: usize, frame: &mut [u8; 128]) -> Rea
     ensures { λ r. ⌜ r .layers .groups .«open» ≡ 0 ⌝ }
 {
     if l.framing.hunting {
-        return hunt_run(l, piece, at);
+        let r = hunt_run(l, piece, at);
+        let next = r.layers;
+        return voted_hunt(next, piece, r.at);
     }
-    place_run(l, piece, at, frame)
+    placed_run(l, piece, at, frame)
 }
 
 // What stands before the next SYNC; and where a whole group follows, that SYNC and two copies.

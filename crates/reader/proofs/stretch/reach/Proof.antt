@@ -1,6 +1,6 @@
 -- `reader::stretch::reach` meets its contract: a nominal stretch, and then the first bytes of a group. Assumes nothing.
 use denote.Ref.{now}
-use Rattle.labelling.proofs.Votes.{unanimous}
+use Rattle.labelling.proofs.Votes.{majority}
 use Rattle.order.proofs.Rooms.{state-room}
 use Rattle.plain_steps.specs.Shapes.{stateWith}
 use Rattle.reader.specs.Onward.{Begun}
@@ -15,7 +15,7 @@ module _ (c : tie.After-nominal-run) where
   start = c .before .before .before .before .before
 
   begun : Begun (now (start .args .piece)) (c .nominal-run .result .at) (stateWith (c .nominal-run .result .layers) (c .nominal-run .last .1 .1 .1 .0))
-  begun = onward-begun (c .nominal-run .ensures .0 .onward _ (unanimous 1) (now (start .args .frame))) (start .pre)
+  begun = onward-begun (c .nominal-run .ensures .0 .onward _ (majority 1) (now (start .args .frame))) (start .pre)
 
 returns : tie.Need-returns
 returns c = none-onward (c .before .before .before .pre)

@@ -1,0 +1,290 @@
+-- Voted stretches joined end to end, and one more group, or FILL, after them: a loop takes one more at each turn. Assumes nothing.
+use mathlib.Core.Path.{_≡_, refl, sym, _∙_}
+use mathlib.Core.List.{List, [], _∷_, _++_, append-nil}
+use Prim.Native.Nat.{ℕ, suc, _+_, _*_, _-_, _≤_, _<_}
+use native.Mathlib.Nat.{add-zero, add-suc, suc-add}
+use native.Mathlib.Omega.{arith}
+use lib.ListN.{length, length-append, getD, set}
+use lib.Seq.{sets}
+use Rattle.base.specs.Format.{SYNC, FILL, syncWord}
+use Rattle.quiet.specs.Quiet.{Byte}
+use Rattle.labelling.specs.declared.Weak.{Weak}
+use Rattle.nominal.specs.Stretches.{FourFill, Nominal, lastPlace, NoneBegins, none, other}
+use Rattle.nominal.specs.Stretches as nominal
+use Rattle.nominal.proofs.Joining.{nominal-join, four-fill, one-fill}
+use Rattle.voted.specs.declared.hunting.Hunt.{Hunt}
+use Rattle.voted.specs.declared.placing.Run.{Run}
+use Rattle.voted.specs.Copies.{Copies, copies, copiesAt, IsVoted, wordOf, words, weakIn, lastOr, agreement, agreements, Summed}
+use Rattle.voted.specs.Stretches.{Group, Spaced, Decided, ends, fill, group, LastAt, Stops, Kept, Longest, noGroup, Placed}
+use Rattle.voted.specs.Stretches.{mostGroups, LeftTo, Sought, nonePassed, Hunted}
+use Rattle.voted.proofs.Agreeing.{agreement-few, split-of, alike, summed-of}
+
+-- ---- voted stretches
+
+module _ {p : List ℕ} where
+  pub decided-join : {i j k : ℕ} {gs hs : List Copies} → Decided p i j gs → Decided p j k hs → Decided p i k (gs ++ hs)
+  decided-join ends m = m
+  decided-join (fill b n) m = fill b (decided-join n m)
+  decided-join (group g s v n) m = group g s v (decided-join n m)
+
+  -- four bytes for each group, at the least; and not past the end
+  pub decided-far : {i j : ℕ} {gs : List Copies} → Decided p i j gs → i + 4 * length gs ≤ j
+  decided-far ends = omega arith
+  decided-far (fill b n) = omega (arith, decided-far n)
+  decided-far (group g s v n) = omega (arith, decided-far n)
+
+  pub decided-inside : {i j : ℕ} {gs : List Copies} → Decided p i j gs → i ≤ length p → j ≤ length p
+  decided-inside ends h = h
+  decided-inside (fill b n) h = decided-inside n (omega (arith, b .inside))
+  decided-inside (group g s v n) h = decided-inside n (omega (arith, s .third .inside))
+
+  pub past-fill : {i j : ℕ} → Nominal p i j [] → Decided p i j []
+  past-fill nominal.ends = ends
+  past-fill (nominal.fill b n) = fill b (past-fill n)
+
+  -- the FILL of a cell
+  pub cell-fill : {i : ℕ} → Spaced p i → Decided p (i + 4) (i + 9) []
+  cell-fill {i} s =
+      past-fill (nominal-join (four-fill {j = i + 8} (omega arith) (s .four)) (one-fill {j = i + 9} (omega arith) (s .fifth)))
+
+-- SYNC stands at i, and three bytes follow it
+pub group-at : {p : List ℕ} {i : ℕ} → Byte p i SYNC → i + 3 < length p → Group p i (copiesAt p i)
+group-at s h = record {
+  sync = s;
+  first = record { inside = omega arith; is = refl };
+  second = record { inside = omega arith; is = refl };
+  third = record { inside = h; is = refl };
+}
+
+-- and no others
+pub copies-there : {p : List ℕ} {i : ℕ} {g : Copies} → Group p i g → g ≡ copiesAt p i
+copies-there {g = g} s = rw (s .first .is, s .second .is, s .third .is)
+
+-- ---- one group more
+
+words-last : (f : List ℕ) (q : ℕ) (gs : List Copies) (g : Copies) → sets f q (words (gs ++ g ∷ [])) ≡ set (sets f q (words gs)) (q + length gs) (wordOf g)
+words-last f q [] g = rw (add-zero q)
+words-last f q (x ∷ gs) g = words-last (set f q (wordOf x)) (suc q) gs g ∙ rw (suc-add q (length gs), add-suc q (length gs))
+
+agreements-last : (gs : List Copies) (g : Copies) → agreements (gs ++ g ∷ []) ≡ agreements gs + agreement g
+agreements-last [] g = omega arith
+agreements-last (x ∷ gs) g = omega (arith, agreements-last gs g)
+
+last-last : (gs : List Copies) (g d : Copies) → lastOr (gs ++ g ∷ []) d ≡ g
+last-last [] g d = refl
+last-last (x ∷ gs) g d = last-last gs g x
+
+abbrev pub run : ℕ → ℕ → ℕ → ℕ → Run
+run at placed last sums = record { at = at; placed = placed; last = last; sums = sums }
+
+module _ {p : List ℕ} where
+  pub kept-none : (i q : ℕ) (f : List ℕ) → Kept p i q f (run i q i 0) f
+  kept-none i q f = record {
+    groups = [];
+    stretch = ends;
+    place-is = omega arith;
+    frame-is = refl;
+    sums-are = refl;
+    last-at = λ d h. absurd (omega arith);
+  }
+
+  module _ {i q k l s : ℕ} {j : ℕ} {f f′ : List ℕ} (b : Kept p i q f (run j k l s) f′) where
+    pub kept-fill : {j′ : ℕ} → Decided p j j′ [] → Kept p i q f (run j′ k l s) f′
+    kept-fill n = record {
+      groups = b .groups;
+      stretch = rw (append-nil (b .groups)) at (decided-join (b .stretch) n);
+      place-is = b .place-is;
+      frame-is = b .frame-is;
+      sums-are = b .sums-are;
+      last-at = b .last-at;
+    }
+
+    pub kept-group : {j′ w a : ℕ} {g : Copies} → Group p j g → IsVoted g → Decided p (j + 4) j′ [] → w ≡ wordOf g → a ≡ agreement g
+        → Kept p i q f (run j′ (k + 1) j (s + a)) (set f′ k w)
+    kept-group {j′} {w} {a} {g} there v n ew ea = record {
+      groups = b .groups ++ g ∷ [];
+      stretch = decided-join (b .stretch) (group g there v n);
+      place-is = omega (arith, b .place-is, length-append (b .groups) (g ∷ []));
+      frame-is = rw (b .frame-is, b .place-is, ew) (sym (words-last f q (b .groups) g));
+      sums-are = omega (arith, b .sums-are, agreements-last (b .groups) g);
+      last-at = λ d h. rw (last-last (b .groups) g d) there;
+    }
+
+-- ---- where a voted stretch stops
+
+module _ {p : List ℕ} {j : ℕ} {Left : Copies → Type 0} (no-fill : Byte p j FILL → ⊥) where
+  -- no whole group is left
+  pub stops-short : length p < j + 4 → Stops p j Left
+  stops-short h = record { no-fill = no-fill; no-group = λ g s v. absurd (omega (arith, s .third .inside)) }
+
+  -- no group stands there
+  pub stops-unlike : (getD p j 0 ≡ SYNC → ⊥) → Stops p j Left
+  stops-unlike h = record { no-fill = no-fill; no-group = λ g s v. absurd (h (s .sync .is)) }
+
+  -- all three copies differ
+  pub stops-split : agreement (copiesAt p j) ≡ 0 → Stops p j Left
+  stops-split e = record { no-fill = no-fill; no-group = λ g s v. absurd (split-of (copiesAt p j) e (rw (copies-there s) at v)) }
+
+  -- a group may stand there, and is left
+  pub stops-left : ((g : Copies) → Left g) → Stops p j Left
+  stops-left left = record { no-fill = no-fill; no-group = λ g s v. left g }
+
+-- ---- the whole stretch
+
+pub placed-none : {p : List ℕ} {i j q : ℕ} {f : List ℕ} → Decided p i j [] → Stops p j (λ g. lastPlace ≤ q) → Placed p i q f (noGroup j q) f
+placed-none n s = record {
+  groups = [];
+  stretch = n;
+  place-is = omega arith;
+  room = λ h. h;
+  frame-is = refl;
+  weak-is = refl;
+  first-is = λ d h. absurd (omega arith);
+  second-is = λ d h. absurd (omega arith);
+  stops = s;
+}
+
+module _ {p : List ℕ} {i q : ℕ} {f : List ℕ} {r : Run} {f′ : List ℕ} (l : Longest p i q f r f′) where
+  -- no group
+  pub placed-empty : r .placed ≡ q → Placed p i q f (noGroup (r .at) q) f′
+  placed-empty e = go (l .kept .groups) (omega (arith, l .kept .place-is)) (l .kept .stretch) (l .kept .frame-is)
+    where
+      go : (gs : List Copies) → length gs ≡ 0 → Decided p i (r .at) gs → f′ ≡ sets f q (words gs) → Placed p i q f (noGroup (r .at) q) f′
+      go [] z n ef = rw ef (placed-none n (rw e at (l .stops)))
+      go (g ∷ gs) z n ef = absurd (omega arith)
+
+  -- some
+  module _ (some : r .placed ≡ q → ⊥) where
+    some-groups : 0 < length (l .kept .groups)
+    some-groups = omega (arith, l .kept .place-is, some)
+
+    pub last-inside : r .last + 3 < length p
+    last-inside = l .kept .last-at (copies 0 0 0) some-groups .third .inside
+
+    pub run-summed : {n : ℕ} → n ≡ r .placed - q → Summed (r .sums) n (weakIn (l .kept .groups)) (alike (l .kept .groups))
+    run-summed {n} e =
+        let k = l .kept in
+        let room = l .has-room .room in
+        let s = summed-of (k .stretch) (omega (arith, k .place-is)) in
+        let count : n ≡ length (k .groups) = omega (arith, k .place-is) in
+        rw (k .sums-are, count) s
+
+    pub placed-some : {w : Weak} → w ≡ weakIn (l .kept .groups)
+        → Placed p i q f
+        record { at = r .at; placed = r .placed; weak = w; first = getD p (r .last + 1) 0; second = getD p (r .last + 2) 0 }
+        f′
+    placed-some e =
+        let k = l .kept in
+        record {
+          groups = k .groups;
+          stretch = k .stretch;
+          place-is = k .place-is;
+          room = λ h. l .has-room .room;
+          frame-is = k .frame-is;
+          weak-is = e;
+          first-is = λ d h. k .last-at d h .first .is;
+          second-is = λ d h. k .last-at d h .second .is;
+          stops = l .stops;
+        }
+
+-- ---- hunted groups
+
+abbrev pub hunt : ℕ → ℕ → ℕ → ℕ → Hunt
+hunt at count last sums = record { at = at; count = count; last = last; sums = sums }
+
+-- the run so far, which may go on
+pub record Going (p : List ℕ) (i : ℕ) (r : Hunt) : Type 0 where
+  pub groups : List Copies
+  pub stretch : Decided p i (r .at) groups
+  pub none-begins : NoneBegins (words groups)
+  pub count-is : r .count ≡ length groups
+  pub most : r .count ≤ mostGroups
+  pub few : r .sums ≤ 0x100010001 * r .count
+  pub sums-are : r .sums ≡ agreements groups
+  pub last-at : LastAt p groups (r .last)
+
+none-last : (gs : List Copies) (g : Copies) → NoneBegins (words gs) → (wordOf g ≡ syncWord 0 → ⊥) → NoneBegins (words (gs ++ g ∷ []))
+none-last [] g n h = other h none
+none-last (x ∷ gs) g (other z n) h = other z (none-last gs g n h)
+
+module _ {p : List ℕ} where
+  pub going-none : {i j : ℕ} (l : ℕ) → Decided p i j [] → Going p i (hunt j 0 l 0)
+  going-none l n = record {
+    groups = [];
+    stretch = n;
+    none-begins = none;
+    count-is = refl;
+    most = omega arith;
+    few = omega arith;
+    sums-are = refl;
+    last-at = λ d h. absurd (omega arith);
+  }
+
+  module _ {i j k l s : ℕ} (b : Going p i (hunt j k l s)) where
+    pub going-on : {j′ a : ℕ} {g : Copies} → k < mostGroups → Group p j g → IsVoted g → (wordOf g ≡ syncWord 0 → ⊥) → Decided p (j + 4) j′ []
+        → a ≡ agreement g → Going p i (hunt j′ (k + 1) j (s + a))
+    going-on {j′} {a} {g} few there v h n ea = record {
+      groups = b .groups ++ g ∷ [];
+      stretch = decided-join (b .stretch) (group g there v n);
+      none-begins = none-last (b .groups) g (b .none-begins) h;
+      count-is = omega (arith, b .count-is, length-append (b .groups) (g ∷ []));
+      most = omega arith;
+      few = omega (arith, b .few, agreement-few g);
+      sums-are = omega (arith, b .sums-are, agreements-last (b .groups) g);
+      last-at = λ d h. rw (last-last (b .groups) g d) there;
+    }
+
+    pub sought : Stops p j (LeftTo k) → Sought p i (hunt j k l s)
+    sought stops = record {
+      groups = b .groups;
+      stretch = b .stretch;
+      none-begins = b .none-begins;
+      count-is = b .count-is;
+      most = b .most;
+      sums-are = b .sums-are;
+      last-at = b .last-at;
+      stops = stops;
+    }
+
+  -- the word is FA
+  pub stops-first : {j w v : ℕ} → (Byte p j FILL → ⊥) → v ≡ wordOf (copiesAt p j) → v ≡ syncWord 0 → Stops p j (LeftTo w)
+  stops-first no-fill e f = record { no-fill = no-fill; no-group = λ g s v h. rw (copies-there s) (sym e ∙ f) }
+
+module _ {p : List ℕ} {i : ℕ} {r : Hunt} (s : Sought p i r) where
+  -- no group
+  pub hunted-empty : r .count ≡ 0 → Hunted p i (nonePassed (r .at))
+  hunted-empty e = go (s .groups) (omega (arith, s .count-is)) (s .stretch)
+    where
+      go : (gs : List Copies) → length gs ≡ 0 → Decided p i (r .at) gs → Hunted p i (nonePassed (r .at))
+      go [] z n = record {
+        groups = [];
+        stretch = n;
+        none-begins = none;
+        count-is = refl;
+        weak-is = refl;
+        first-is = λ d h. absurd (omega arith);
+        second-is = λ d h. absurd (omega arith);
+        stops = rw e at (s .stops);
+      }
+      go (g ∷ gs) z n = absurd (omega arith)
+
+  pub hunt-summed : Summed (r .sums) (r .count) (weakIn (s .groups)) (alike (s .groups))
+  hunt-summed = rw (s .sums-are, s .count-is) (summed-of (s .stretch) (omega (arith, s .count-is, s .most)))
+
+  -- some
+  module _ (some : r .count ≡ 0 → ⊥) where
+    pub hunt-inside : r .last + 3 < length p
+    hunt-inside = s .last-at (copies 0 0 0) (omega (arith, s .count-is, some)) .third .inside
+
+    pub hunted-some : {w : Weak} → w ≡ weakIn (s .groups)
+        → Hunted p i record { at = r .at; count = r .count; weak = w; first = getD p (r .last + 1) 0; second = getD p (r .last + 2) 0 }
+    hunted-some e = record {
+      groups = s .groups;
+      stretch = s .stretch;
+      none-begins = s .none-begins;
+      count-is = s .count-is;
+      weak-is = e;
+      first-is = λ d h. s .last-at d h .first .is;
+      second-is = λ d h. s .last-at d h .second .is;
+      stops = s .stops;
+    }
