@@ -1,4 +1,6 @@
--- The writer's refusals by the tests of its code, and its promise on each way out. Assumes nothing.
+-- The writer's refusals by the tests of its code, and its promise on each way out. The code tests before it writes, so the list of faults is asked
+-- of the bodies in the caller's bytes: an instant is its body's own and an offset is where its body starts, so that 18 comes only where an instant
+-- does not rise, and 19 never. Assumes nothing.
 use mathlib.Core.Path.{_≡_, refl, sym, ap, _∙_}
 use mathlib.Core.Bool.{Bool, true, false, not, _&&_, _||_}
 use mathlib.Core.List.{List, [], _∷_}

@@ -1,4 +1,6 @@
--- A book without a fault is the book of the year and the cycles that it says, and the writer gives it. Assumes nothing.
+-- A book without a fault is the book of the year and the cycles that it says, and the writer gives it. That there is no fault is turned into facts
+-- about the contents once (`sound`); by these each entry and each body is what the layout puts there, so that the bytes are equal piece by piece,
+-- and the writer's own tests are passed. Assumes nothing.
 use mathlib.Core.Path.{_≡_, refl, sym, ap, _∙_}
 use mathlib.Core.Bool.{Bool, true, false, cond, not, _&&_, _||_}
 use mathlib.Core.List.{List, [], _∷_, _++_}

@@ -1,5 +1,6 @@
 -- The merge said instant by instant: of cycles that strictly rise it lists at each instant what is to be listed there, its instants strictly rise,
--- and no other list does both. Assumes nothing.
+-- and no other list does both. A step takes the lower of two instants, so that all that follows lies after it: the cases are those of the two
+-- cycles that come next. Assumes nothing.
 use mathlib.Core.Path.{_≡_, refl, sym, ap, _∙_}
 use mathlib.Core.Bool.{Bool, true, false, cond}
 use mathlib.Core.List.{List, [], _∷_, _++_, map}

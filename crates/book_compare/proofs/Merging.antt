@@ -1,4 +1,6 @@
--- The merge of two books: its steps, the table after so many lines, and that it has no line exactly where the cycles are the same. Assumes nothing.
+-- The merge of two books: its steps, the table after so many lines, and that it has no line exactly where the cycles are the same. A step is told by
+-- the two cycles that come next, whatever was merged before; `Progress` says that what is listed with what is yet to be merged is the whole
+-- merge, so that the loop needs the law of one step alone. Assumes nothing.
 use mathlib.Core.Path.{_≡_, refl, sym, ap, _∙_}
 use mathlib.Core.Bool.{Bool, true, false, cond}
 use mathlib.Core.List.{List, [], _∷_, _++_, map, append-assoc, append-nil}

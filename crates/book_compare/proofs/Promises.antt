@@ -1,4 +1,5 @@
--- What `compare` promises on each way out. Assumes nothing.
+-- What `compare` promises on each way out. The promise is proved once, of an answer and a table that are the definition's; each way out then shows
+-- only that its tests are lines of the refusal table, in the table's order. Assumes nothing.
 use mathlib.Core.Path.{_≡_, refl, sym, ap, _∙_}
 use mathlib.Core.Bool.{Bool, true, false, cond, not}
 use mathlib.Core.List.{List, [], _∷_, map}

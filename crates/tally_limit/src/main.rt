@@ -52,13 +52,11 @@ fn main() {
     limit();
     last_byte();
     order();
-    order_of_lengths();
-    order_of_areas();
+    order_in_order();
     limits_of_counts();
     counts_together();
     wrapping_groups();
     wrapping_frames();
-    wrapping_runs();
     bytes_sum();
     words_sum();
     frames_sum();
@@ -66,13 +64,11 @@ fn main() {
     weak_sum_at_the_limit();
     weak_limits();
     wrapping_weak();
-    wrapping_by_one();
     open();
     placed();
     building();
     matched();
-    placed_while_hunting();
-    building_while_hunting();
+    hunting();
     hole();
     free();
     weak_counted();
@@ -87,10 +83,7 @@ fn limit() {
     t.groups.fill = THREE_LESS;
     shown(b"3 bytes below the limit, 4 bytes", t, 4, AREA);
     shown(b"3 bytes below the limit, 2 bytes", t, 2, AREA);
-    at_the_limit(call(b"3 bytes below the limit, 3 bytes", t, 3, AREA));
-}
-
-fn at_the_limit(t: Tally) {
+    t = call(b"3 bytes below the limit, 3 bytes", t, 3, AREA);
     shown(b"at the limit, 1 byte", t, 1, AREA);
     shown(b"at the limit, 4 bytes", t, 4, AREA);
     shown(b"at the limit, no byte", t, 0, AREA);
@@ -136,17 +129,14 @@ fn last_byte() {
         2,
         AREA,
     );
-    after_it(call(
+    t = call(
         b"a major frame that the byte at the limit completes, 1 byte",
         t,
         1,
         AREA,
-    ));
-}
-
-fn after_it(paid: Tally) {
-    shown(b"after it, 1 byte", paid, 1, AREA);
-    shown(b"after it, no byte", paid, 0, AREA);
+    );
+    shown(b"after it, 1 byte", t, 1, AREA);
+    shown(b"after it, no byte", t, 0, AREA);
 }
 
 // A tally that is not in order.
@@ -160,15 +150,11 @@ fn order() {
     shown(b"not in order", t, 0, AREA);
 }
 
-fn order_of_lengths() {
+fn order_in_order() {
     let t = full();
     shown(b"a byte too little area, too long", t, 1, 16383);
     shown(b"a byte too much area, too long", t, 1, 16385);
     shown(b"no area, too long", t, 1, 0);
-}
-
-fn order_of_areas() {
-    let t = full();
     shown(b"a byte too little area, no byte", t, 0, 16383);
     shown(b"a byte too much area, no byte", t, 0, 16385);
     shown(b"too long", t, 1, AREA);
@@ -237,10 +223,7 @@ fn wrapping_frames() {
     t.framing.damaged = 0;
     t.framing.unsynced = P57;
     asked(b"no word, unsynced 2^57", t);
-}
-
-fn wrapping_runs() {
-    let mut t = fresh(1);
+    t.framing.unsynced = 0;
     t.framing.good = P57;
     t.runs.loose = P57;
     asked(b"no word, good and loose 2^57", t);
@@ -349,10 +332,6 @@ fn wrapping_weak() {
     asked_weak(b"no group, weak1 and weak2 2^63", t, P63, P63, 0);
     asked_weak(b"no group, weak2 and weak3 2^63", t, 0, P63, P63);
     asked_weak(b"no group, weak1 and weak3 2^63", t, P63, 0, P63);
-}
-
-fn wrapping_by_one() {
-    let t = fresh(1);
     asked_weak(b"no group, weak1 2^64 - 1, weak2 1", t, LARGEST, 1, 0);
     asked_weak(b"no group, weak2 2^64 - 1, weak3 1", t, 0, LARGEST, 1);
     asked_weak(b"no group, weak3 2^64 - 1, weak1 1", t, 1, 0, LARGEST);
@@ -432,7 +411,7 @@ fn matched() {
     asked(b"match 0 out of hunting", t);
 }
 
-fn placed_while_hunting() {
+fn hunting() {
     put(b"placed and building are 0 while hunting\n");
     let mut t = fresh(1);
     t.groups.bytes = 4;
@@ -441,13 +420,9 @@ fn placed_while_hunting() {
     asked(b"placed 1 while hunting", t);
     t.framing.hunting = false;
     asked(b"placed 1 out of hunting", t);
-}
-
-fn building_while_hunting() {
-    let mut t = fresh(1);
     t.groups.bytes = 512;
     t.groups.voted = 128;
-    t.framing.hunting = false;
+    t.framing.placed = 0;
     t.framing.good = 1;
     t.runs.building = 1;
     asked(b"building 1 out of hunting", t);

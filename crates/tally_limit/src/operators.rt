@@ -37,7 +37,6 @@ pub(crate) fn all() {
     wrapping();
     on_duty();
     changes();
-    no_such_operator();
     order();
     whose();
 }
@@ -169,10 +168,6 @@ fn changes() {
     changed(b"operator 0", t, 0);
     changed(b"operator 7", t, 7);
     changed(b"operator 8", t, 8);
-}
-
-fn no_such_operator() {
-    let t = fresh(1);
     changed(b"operator 256", t, 256);
     changed(b"operator 2^32", t, P32);
     changed(b"operator 2^64 - 1", t, LARGEST);

@@ -10,7 +10,6 @@ use vectors::put;
 pub(crate) fn all() {
     given();
     in_order();
-    out_of_order();
     no_split();
     by_bits();
     locks();
@@ -44,10 +43,6 @@ fn in_order() {
     asked(b"rule 1", t);
     t.rule = 2;
     asked(b"rule 2", t);
-}
-
-fn out_of_order() {
-    let mut t = fresh(1);
     t.rule = 0;
     asked(b"rule 0", t);
     t.rule = 3;

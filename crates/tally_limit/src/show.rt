@@ -73,70 +73,64 @@ fn counted(g: Groups) {
     );
 }
 
+// The tests are joined by `&`, which does not branch.
 pub(crate) fn same(a: Tally, b: Tally) -> bool {
-    if !same_groups(a.groups, b.groups) {
-        return false;
-    }
-    if !same_framing(a.framing, b.framing) {
-        return false;
-    }
-    if !same_runs(a.runs, b.runs) {
-        return false;
-    }
-    if !same_operators(a.operators, b.operators) {
-        return false;
-    }
-    if a.rule != b.rule {
-        return false;
-    }
     let f = a.frame;
     let g = b.frame;
-    same_frame(&f, &g)
+    same_groups(a.groups, b.groups)
+        & same_framing(a.framing, b.framing)
+        & same_runs(a.runs, b.runs)
+        & same_operators(a.operators, b.operators)
+        & (a.rule == b.rule)
+        & same_frame(&f, &g)
 }
 
 fn same_groups(a: Groups, b: Groups) -> bool {
-    a.bytes == b.bytes
-        && a.fill == b.fill
-        && a.stray == b.stray
-        && a.voted == b.voted
-        && a.split == b.split
-        && same_weak(a.weak, b.weak)
-        && a.open == b.open
-        && a.first == b.first
-        && a.second == b.second
+    (a.bytes == b.bytes)
+        & (a.fill == b.fill)
+        & (a.stray == b.stray)
+        & (a.voted == b.voted)
+        & (a.split == b.split)
+        & same_weak(a.weak, b.weak)
+        & (a.open == b.open)
+        & (a.first == b.first)
+        & (a.second == b.second)
 }
 
 fn same_weak(a: Weak, b: Weak) -> bool {
-    a.first == b.first && a.second == b.second && a.third == b.third
+    (a.first == b.first) & (a.second == b.second) & (a.third == b.third)
 }
 
 fn same_framing(a: Framing, b: Framing) -> bool {
-    a.hunted == b.hunted
-        && a.good == b.good
-        && a.damaged == b.damaged
-        && a.unsynced == b.unsynced
-        && a.placed == b.placed
-        && a.hunting == b.hunting
-        && a.matched == b.matched
-        && a.erasure == b.erasure
+    (a.hunted == b.hunted)
+        & (a.good == b.good)
+        & (a.damaged == b.damaged)
+        & (a.unsynced == b.unsynced)
+        & (a.placed == b.placed)
+        & (a.hunting == b.hunting)
+        & (a.matched == b.matched)
+        & (a.erasure == b.erasure)
 }
 
 fn same_runs(a: Runs, b: Runs) -> bool {
-    a.majors == b.majors && a.broken == b.broken && a.loose == b.loose && a.building == b.building
+    (a.majors == b.majors)
+        & (a.broken == b.broken)
+        & (a.loose == b.loose)
+        & (a.building == b.building)
 }
 
 fn same_operators(a: Operators, b: Operators) -> bool {
     let p = a.paid;
     let q = b.paid;
-    p[0] == q[0]
-        && p[1] == q[1]
-        && p[2] == q[2]
-        && p[3] == q[3]
-        && p[4] == q[4]
-        && p[5] == q[5]
-        && p[6] == q[6]
-        && p[7] == q[7]
-        && a.duty == b.duty
+    (p[0] == q[0])
+        & (p[1] == q[1])
+        & (p[2] == q[2])
+        & (p[3] == q[3])
+        & (p[4] == q[4])
+        & (p[5] == q[5])
+        & (p[6] == q[6])
+        & (p[7] == q[7])
+        & (a.duty == b.duty)
 }
 
 fn same_frame(a: &[u8; 128], b: &[u8; 128]) -> bool {

@@ -1,4 +1,4 @@
--- `book::writing::put_entry` meets its contract. Assumes nothing.
+-- `book::writing::put_entry` meets its contract: two numbers, one behind the other. Assumes nothing.
 use denote.Ref.{now}
 use Rattle.book.proofs.Stores.{entry-put}
 use borrow.Author.Needs.{needs}

@@ -1,4 +1,4 @@
--- `book::writing::put_header` meets its contract. Assumes nothing.
+-- `book::writing::put_header` meets its contract: two numbers, one behind the other, before what stays. Assumes nothing.
 use denote.Ref.{now}
 use Rattle.book.proofs.Stores.{header-put}
 use borrow.Author.Needs.{needs}
