@@ -162,7 +162,7 @@ fn print_records() {
         assert_eq!(proved, plain, "the records differ");
         time(2, &mut |cycle| {
             copy.copy_from_slice(black_box(cycle));
-            0
+            u64::from(black_box(&copy)[0])
         });
     }
     let [proved, plain, memcpy] = best;

@@ -31,9 +31,11 @@ gather-requires c κs = search needs
 
 returns : tie.Need-returns
 returns c =
-    let s = c .before .before .before .before .before in
+    let gathered = c .before in
+    let part = gathered .before .before in
+    let s = part .before .before in
     let body = now (s .args .body) in
-    let is = column-is body (s .args .k) (replicate 128 0) _ (s .pre .0) (s .pre .1) (length-replicate {A = ℕ} 128 0) (c .before .gather .ensures .after) in
+    let is = column-is body (s .args .k) (replicate 128 0) _ (s .pre .0) (s .pre .1) (length-replicate {A = ℕ} 128 0) (gathered .gather .ensures .after) in
     (is, ap length is ∙ column-length body (s .args .k))
 
 pub column-spec : {M : Type 1} → statement M
