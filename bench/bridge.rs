@@ -13,6 +13,26 @@ extern "C" {
         area_len: usize,
         answer: *mut [u64; 2],
     ) -> u8;
+    fn pcd_take_to_lock(
+        numbers: *mut [u64; NUMBERS],
+        frame: *mut [u8; FRAME],
+        piece: *const u8,
+        piece_len: usize,
+        area: *mut u8,
+        area_len: usize,
+        answer: *mut [u64; 3],
+    ) -> u8;
+    fn pcd_relock(
+        numbers: *mut [u64; NUMBERS],
+        frame: *mut [u8; FRAME],
+        feeder: *mut [u64; 2],
+        piece: *const u8,
+        piece_len: usize,
+        ends: u64,
+        area: *mut u8,
+        area_len: usize,
+        answer: *mut [u64; 3],
+    ) -> u8;
     fn pcd_change_duty(numbers: *mut [u64; NUMBERS], frame: *mut [u8; FRAME], operator_number: u64) -> u8;
     fn pcd_write_lead_in(spacing: u64, out: *mut u8, out_len: usize) -> u8;
     fn pcd_write_minor_frame(spacing: u64, frame: *const u8, frame_len: usize, out: *mut u8, out_len: usize) -> u8;
@@ -109,6 +129,49 @@ pub fn take(s: &mut State, piece: &[u8], area: &mut [u8]) -> Taken {
         )
     };
     Taken { refusal, taken: answer[0], complete: answer[1] }
+}
+
+// The refusal, and the bytes taken, whether a frame is complete and whether a hunt has ended; a refused call leaves u64::MAX in the three.
+pub fn take_to_lock(s: &mut State, piece: &[u8], area: &mut [u8]) -> (u8, [u64; 3]) {
+    let mut answer = [u64::MAX; 3];
+    let refusal = unsafe {
+        pcd_take_to_lock(
+            &mut s.numbers,
+            &mut s.frame,
+            piece.as_ptr(),
+            piece.len(),
+            area.as_mut_ptr(),
+            area.len(),
+            &mut answer,
+        )
+    };
+    (refusal, answer)
+}
+
+// A feeder as it crosses: its tally, and whether a lock awaits its word and how many lead-ins were handed.
+#[derive(Clone, Copy, Debug, PartialEq, Eq)]
+pub struct Feeder {
+    pub tally: State,
+    pub numbers: [u64; 2],
+}
+
+// The refusal, and the bytes taken, whether a frame is complete and whether more is asked for; a refused step leaves u64::MAX in the three.
+pub fn relock(s: &mut Feeder, piece: &[u8], ends: u64, area: &mut [u8]) -> (u8, [u64; 3]) {
+    let mut answer = [u64::MAX; 3];
+    let refusal = unsafe {
+        pcd_relock(
+            &mut s.tally.numbers,
+            &mut s.tally.frame,
+            &mut s.numbers,
+            piece.as_ptr(),
+            piece.len(),
+            ends,
+            area.as_mut_ptr(),
+            area.len(),
+            &mut answer,
+        )
+    };
+    (refusal, answer)
 }
 
 pub fn change_duty(s: &mut State, operator_number: u64) -> u8 {

@@ -14,9 +14,11 @@ mod disorder;
 mod entry;
 mod frame_store;
 mod items;
+mod lock;
 mod lookup;
 mod nominal;
 mod plain;
+mod relock;
 mod stream;
 mod tally;
 mod tuned;
@@ -88,6 +90,8 @@ struct Seen {
     paid_to: [u64; OPERATORS],
     ended_in: [u64; 17],
     changed: copy_errors::Met,
+    to_lock: lock::Met,
+    reels: relock::Met,
     word72: items::Met,
     books: book::Met,
     comparisons: book_compare::Met,
@@ -149,6 +153,8 @@ impl Seen {
             ("major frames paid to operator", paid_to),
             ("streams that ended with some", streams),
             ("copies changed", self.changed.cases()),
+            ("calls to a lock", self.to_lock.cases()),
+            ("reels as they come", self.reels.cases()),
             ("word 72", self.word72.cases()),
             ("books", self.books.cases()),
             ("books compared", self.comparisons.cases()),
@@ -214,6 +220,8 @@ impl Trial {
         alike::trial(&mut self.r, &self.bytes, &self.start, longest)?;
         for rule in [BY_BYTES, BY_BITS] {
             copy_errors::trial(&mut self.r, &self.bytes, &self.start, rule, longest, &mut seen.changed)?;
+            lock::trial(&mut self.r, &self.bytes, &self.start, rule, longest, &mut seen.to_lock)?;
+            relock::trial(&mut self.r, rule, RARE, &mut seen.reels).map_err(|what| format!("rule {rule}: a reel as it comes: {what}"))?;
         }
         writer::trials(&mut self.r)?;
         lookup::trials(&mut self.r)?;

@@ -19,7 +19,7 @@ use std::fs;
 use std::process::exit;
 use std::time::Instant;
 
-use bridge::State;
+use bridge::{Feeder, State};
 use stream::{Data, Random};
 use tally::{Tally, AREA, BY_BITS, BY_BYTES};
 
@@ -66,6 +66,16 @@ fn main() {
         }
     }
     println!();
+    println!("reels as they come: steps that lock on a frame's own sync, beside calls of the proved reader on the same bytes");
+    println!();
+    println!("{:<12} {:>7} | {:>8} {:>8} | {:>8}", "stream", "piece", "steps", "calls", "ratio");
+    for name in STREAMS.iter().chain(&["slips"]) {
+        let bytes = stream_of(name, mib * MIB);
+        for piece in [bytes.len(), 65_536, 4096, 300] {
+            print_steps(name, &bytes, piece);
+        }
+    }
+    println!();
     println!("the program from a file of {file_mib} MiB, MB/s, best of {ROUNDS}; beside it the same file read in pieces of 65,536 and no more");
     println!();
     from_file::print_heading();
@@ -93,6 +103,14 @@ fn stream_of(name: &str, n: usize) -> Vec<u8> {
                 let bit = r.below(8);
                 (0..3).for_each(|copy| cell[1 + copy] ^= 1 << ((bit + copy) % 8));
             }
+            bytes
+        }
+        // A byte is lost in every hundredth frame.
+        "slips" => {
+            let bytes = reel(n + n / 100, || 5);
+            let lost = |at: usize| at % (100 * 128 * 9) == 50 * 128 * 9;
+            let mut bytes: Vec<u8> = (0..bytes.len()).filter(|&at| !lost(at)).map(|at| bytes[at]).collect();
+            bytes.truncate(n);
             bytes
         }
         "five, bad" => spoilt(n, 5000),
@@ -193,6 +211,24 @@ fn proved(bytes: &[u8], piece: usize, rule: u64) -> Left {
     Left { state, area, paid }
 }
 
+// The same by steps that lock on a frame's own sync: how many major frames they pay, and how many lead-ins they hand.
+fn stepped(bytes: &[u8], piece: usize) -> (u64, u64) {
+    let (_, tally) = bridge::fresh(BY_BYTES);
+    let mut feeder = Feeder { tally, numbers: [0, 0] };
+    let mut area = vec![0; AREA];
+    let (mut at, mut end, mut paid) = (0, 0, 0);
+    while at < bytes.len() {
+        let (refusal, [taken, complete, more]) = bridge::relock(&mut feeder, &bytes[at..end], (end == bytes.len()) as u64, &mut area);
+        assert_eq!(refusal, 0);
+        at += taken as usize;
+        paid += complete;
+        if more == 1 || at == end {
+            end = (end + piece).min(bytes.len());
+        }
+    }
+    (paid, feeder.numbers[1])
+}
+
 fn in_rust(bytes: &[u8], piece: usize, rule: u64, take: Take) -> Left {
     let mut t = Tally::fresh(rule);
     let mut area = vec![0; AREA];
@@ -238,6 +274,20 @@ fn print_row(name: &str, bytes: &[u8], piece: usize, rule: u64) {
     let ratios: String = times.iter().map(|&time| format!(" {:>8.2}", time / proved_time)).collect();
     let piece = if piece == bytes.len() { "whole".to_string() } else { piece.to_string() };
     println!("{name:<12} {piece:>7} | {:>8.0}{speeds} |{ratios}", speed(proved_time));
+}
+
+fn print_steps(name: &str, bytes: &[u8], piece: usize) {
+    let (mut steps, mut calls) = (f64::INFINITY, f64::INFINITY);
+    for _ in 0..ROUNDS {
+        let ((paid, lead_ins), time) = seconds(|| stepped(bytes, piece));
+        steps = steps.min(time);
+        let (left, time) = seconds(|| proved(bytes, piece, BY_BYTES));
+        calls = calls.min(time);
+        held(lead_ins != 0 || paid == left.paid, &format!("steps pay something else on the stream '{name}' in pieces of {piece}"));
+    }
+    let speed = |time: f64| bytes.len() as f64 / time / 1e6;
+    let piece = if piece == bytes.len() { "whole".to_string() } else { piece.to_string() };
+    println!("{name:<12} {piece:>7} | {:>8.0} {:>8.0} | {:>8.2}", speed(steps), speed(calls), calls / steps);
 }
 
 fn held(ok: bool, what: &str) {

@@ -134,6 +134,20 @@ uint8_t pcd_take(uint64_t numbers[PCD_NUMBERS], uint8_t frame[PCD_MINOR_FRAME], 
 uint8_t pcd_take_to_lock(uint64_t numbers[PCD_NUMBERS], uint8_t frame[PCD_MINOR_FRAME], const uint8_t *piece, size_t piece_len, uint8_t *area,
                          size_t area_len, uint64_t answer[3]);
 
+/* One step over a reel as it comes, with lead-ins or without, whose words may be lost: where a hunt ends on a frame's own sync, the three sync words
+ * are handed to the reader once more, so that the frame is read where it lies. Beside the tally the caller lends feeder: feeder[0] is 1 where a
+ * lock awaits the word that decides and 0 where none does, feeder[1] how many lead-ins were handed. Both are 0 at first; the tally's bytes are
+ * those of the reel, and twelve for each lead-in. ends is 0 where more bytes may follow the piece, and another number where none do.
+ *
+ * Accepted: answer[0] is how many bytes of the piece were taken, and the next step goes on there; answer[1] whether a major frame is complete, and
+ * the area holds it; answer[2] whether the bytes that were not taken must come again with more behind them. A step that takes no byte of a piece
+ * that has some asks so.
+ *
+ * Refused: 1, as above, or the lock is none: feeder[0] above 1, or a lock that does not stand before a frame, or more lead-ins than the tally has
+ * bytes for; 2, the area's length; 3, the piece and twelve bytes more are too many. Nothing is taken or written. */
+uint8_t pcd_relock(uint64_t numbers[PCD_NUMBERS], uint8_t frame[PCD_MINOR_FRAME], uint64_t feeder[2], const uint8_t *piece, size_t piece_len,
+                   uint64_t ends, uint8_t *area, size_t area_len, uint64_t answer[3]);
+
 /* Puts an operator on duty, 0 to 7, and changes nothing else: the major frames that are complete from now on are paid to that operator.
  *
  * Refused: 1, as above; 14. Nothing is written. */

@@ -32,6 +32,7 @@ pub use pointer::pcd_pointer_distance;
 pub use pointer::pcd_previous_pointer;
 pub use reading::pcd_change_duty;
 pub use reading::pcd_fresh;
+pub use reading::pcd_relock;
 pub use reading::pcd_take;
 pub use reading::pcd_take_to_lock;
 pub use slots::pcd_release;

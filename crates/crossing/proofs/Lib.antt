@@ -1,3 +1,4 @@
 pub mod Numbers
 pub mod Crossed
 pub mod LockCrossed
+pub mod RelockCrossed

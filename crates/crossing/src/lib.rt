@@ -1,6 +1,7 @@
 // A tally as it crosses to programs in other languages: its numbers and the frame's 128 bytes, which the caller lends. An entry reads
 // them, calls the reader, and writes them back. No number is cut: numbers that are no tally's are refused as a tally not in order is.
 mod duty;
+mod feeder;
 mod lock;
 
 ghost use mathlib.Core.Path.{_≡_};
@@ -13,6 +14,7 @@ ghost use Rattle.crossing.specs.Crossing.{lent, TakeCrossed, FreshCrosse
 use base::refusal::NOT_IN_ORDER;
 use base::wide;
 pub use duty::change_duty;
+pub use feeder::relock;
 use labelling::Framing;
 use labelling::Groups;
 use labelling::Operators;

@@ -16,10 +16,10 @@ use Rattle.own_sync.specs.OwnCut.{beforeSync}
 use Rattle.own_sync.proofs.OwnCuts.{sync}
 
 -- the clauses of the two counts
-before-none : (w : Word) (ws : List Word) → synced (w ∷ ws) ≡ true → beforeSync (w ∷ ws) ≡ 0
+pub before-none : (w : Word) (ws : List Word) → synced (w ∷ ws) ≡ true → beforeSync (w ∷ ws) ≡ 0
 before-none w ws e = rw (e, beforeSync)
 
-before-more : (w : Word) (ws : List Word) → synced (w ∷ ws) ≡ false → beforeSync (w ∷ ws) ≡ suc (beforeSync ws)
+pub before-more : (w : Word) (ws : List Word) → synced (w ∷ ws) ≡ false → beforeSync (w ∷ ws) ≡ suc (beforeSync ws)
 before-more w ws e = rw (e, beforeSync)
 
 hunt-three : (w : Word) (ws : List Word) → synced (w ∷ ws) ≡ true → huntLength (w ∷ ws) ≡ 3
@@ -34,7 +34,7 @@ and-none true true = refl
 and-none true false = refl
 and-none false b = refl
 
-one-short : (x : Word) → synced (x ∷ []) ≡ false
+pub one-short : (x : Word) → synced (x ∷ []) ≡ false
 unfolding synced
 one-short x = and-none (isWord 0xfa x) false
 
@@ -105,6 +105,15 @@ sought (x ∷ y ∷ z ∷ p) w e = go (synced (x ∷ y ∷ z ∷ p)) refl (sough
         → Sought (x ∷ y ∷ z ∷ p ++ w ∷ [])
     go true s ih = absurd (omega (arith, before-none x (y ∷ z ∷ p) s))
     go false s ih = sought-after x (y ∷ z ∷ p ++ w ∷ []) (λ ys. s) s (ih (omega (arith, before-more x (y ∷ z ∷ p) s)))
+
+-- a hunt that finds none takes all words
+pub hunts-all : (p : List Word) → beforeSync p ≡ length p → huntLength p ≡ length p
+hunts-all [] e = refl
+hunts-all (x ∷ p) e = go (synced (x ∷ p)) refl (hunts-all p)
+  where
+    go : (b : Bool) → synced (x ∷ p) ≡ b → (beforeSync p ≡ length p → huntLength p ≡ length p) → huntLength (x ∷ p) ≡ length (x ∷ p)
+    go true s ih = absurd (omega (arith, before-none x p s))
+    go false s ih = omega (arith, before-more x p s, hunt-more x p s, ih (omega (arith, before-more x p s)))
 
 -- ---- whether the tally hunts
 

@@ -1,4 +1,5 @@
 pub mod Locks
 pub mod OwnCut
 pub mod Relocking
+pub mod Recovery
 pub mod OwnOnce

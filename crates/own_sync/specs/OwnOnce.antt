@@ -15,6 +15,7 @@ use Rattle.labelling.specs.Machine.{fresh}
 use Rattle.labelling.specs.Calls.{Call, joined, paid, Handed}
 use Rattle.labelling.specs.Once.{framesIn, Once}
 use Rattle.own_sync.specs.OwnCut.{ownPieces, ownFrames, ownFound}
+use Rattle.own_sync.specs.Recovery.{Recovers}
 
 -- the bytes bs of a reel, taken by the calls cs with n lead-ins among them, from the fresh tally of a rule and the area a₀; t and a are left
 pub record OwnOnce (rule : ℕ) (a₀ bs : List ℕ) (cs : List Call) (t : Tally) (a : List ℕ) (n : ℕ) : Type 0 where
@@ -28,5 +29,8 @@ pub record OwnOnce (rule : ℕ) (a₀ bs : List ℕ) (cs : List Call) (t : Tally
   pub paid-is : paid cs ≡ map (concatMap values) (majors (ownFrames (words (ruleVote rule) bs)))
   -- a lead-in is handed for each frame that a hunt found by its own sync, and for no other
   pub lead-ins-are : n ≡ ownFound (words (ruleVote rule) bs)
-  -- the tally's bytes are those of the reel, and twelve for each lead-in
+  -- the tally's bytes are those of the reel, and twelve for each lead-in; without any, the calls have taken the reel's bytes and no other
   pub bytes-are : t .groups .bytes ≡ length bs + 12 * n
+  pub unled : n ≡ 0 → joined cs ≡ bs
+  -- which whole major frames are paid
+  pub recovers : Recovers (ruleVote rule) bs cs n

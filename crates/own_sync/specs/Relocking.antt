@@ -37,9 +37,9 @@ noWord (w ∷ ws) = false
 unfoldable pub locked : TakeCall → Bool
 locked c = ltb (locks (c .tally .framing)) (locks (answer (toLock c) .tally .framing))
 
--- a lock awaits its next word after the call as far as a lock: one was met with the last byte, or the one before (w) has met no word yet
+-- a lock awaits its next word after the call as far as a lock: one is met there, or the one before (w) meets no word in the piece
 unfoldable pub awaitsAfter : Bool → TakeCall → Bool
-awaitsAfter w c = locked c || (w && noWord (wordsNext (c .tally) (taken (toLock c))))
+awaitsAfter w c = locked c || (w && noWord (wordsNext (c .tally) (c .piece)))
 
 -- ---- the lead-in
 
