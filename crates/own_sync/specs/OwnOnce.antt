@@ -1,7 +1,6 @@
 -- The claim about every list of calls that locks on a frame's own sync: the frames paid are those of the reel's own words, cut where they lie.
 -- Definitions only.
 use mathlib.Core.Path.{_≡_}
-use mathlib.Core.Bool.{Bool, false}
 use mathlib.Core.List.{List, map}
 use Prim.Native.Nat.{ℕ, _+_, _*_}
 use lib.ListN.{length}
