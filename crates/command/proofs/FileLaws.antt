@@ -8,6 +8,7 @@ use lib.ListN.{length, take}
 use lib.Seq.{take-take}
 use borrow.Rule.Slice.PartMut.{midOf, putMid, same-len-mid, take-put, mid-len}
 use Rattle.command.specs.declared.files.Filled.{Filled}
+use Rattle.command.proofs.TextLaws.{counted}
 use Rattle.command.specs.Files.{SomePromise, FillPromise}
 
 -- the room is filled up to `end`, and what stood before `from` stays
@@ -41,7 +42,7 @@ module _ (old : List ℕ) (from : ℕ) (room : List ℕ) (end : ℕ) (k : Kept o
   kept-done failed = record {
     size-is = same-size;
     front-stays = kept-on .front-stays;
-    within = omega (arith, same-size, k .size-is);
+    counts = counted (refilled room end part) end (omega (arith, same-size, k .size-is));
     beyond = λ _. k .beyond;
   }
 
@@ -50,6 +51,6 @@ pub kept-full : (old : List ℕ) (from : ℕ) (room : List ℕ) (end : ℕ) → 
 kept-full old from room end k failed = record {
   size-is = k .size-is;
   front-stays = k .front-stays;
-  within = omega arith;
+  counts = counted room (length room) (omega arith);
   beyond = λ h. omega (arith, k .size-is);
 }

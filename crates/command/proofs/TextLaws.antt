@@ -12,6 +12,7 @@ use lib.Seq.{take-all, take-at, take-length, take-suc, take-suc-set, length-take
 use borrow.Author.Tests.{leb-true, leb-false, lt-ltb, le-ltb}
 use Rattle.base.specs.Ranges.{lowest}
 use Rattle.base.proofs.Ranges.{stopped}
+use Rattle.io.specs.Counts.{Counts}
 use Rattle.io.specs.Digits.{digits, Fewest}
 use Rattle.command.specs.Text.{Adds, places, decimal}
 
@@ -21,20 +22,23 @@ cut-once zero xs ys = refl
 cut-once (suc n) [] ys = refl
 cut-once (suc n) (x ∷ xs) ys = ap (λ (l : List ℕ). x ∷ l) (cut-once n xs ys)
 
+pub counted : (xs : List ℕ) (n : ℕ) → n ≤ length xs → Counts n xs
+counted xs n h = (h, sym (length-take-le n xs h))
+
 module _ (old : List ℕ) (at : ℕ) where
   -- a text that ends within the buffer, and one that fills it
   pub adds-within : at ≤ length old → Adds old at [] old at
   adds-within h = record {
     text-is = sym (rw append-nil (take-all (length old) (take at old) (omega (arith, length-take-le at old h))));
     size-is = refl;
-    within = h;
+    counts = counted old at h;
   }
 
   pub adds-full : (bytes : List ℕ) → length old ≤ at → Adds old at bytes old (length old)
   adds-full bytes h = record {
     text-is = take-length old ∙ rw (take-all at old h) (sym (take-at old bytes (length old) refl));
     size-is = refl;
-    within = omega arith;
+    counts = counted old (length old) (omega arith);
   }
 
   pub adds-byte : (b : ℕ) → at < length old → Adds old at (b ∷ []) (set old at b) (at + 1)
@@ -44,14 +48,14 @@ module _ (old : List ℕ) (at : ℕ) where
       record {
         text-is = rw (add-one, take-suc-set old at b h) (sym (take-all (length old) (take at old ++ (b ∷ [])) fits));
         size-is = length-set old at b;
-        within = omega (arith, length-set old at b);
+        counts = counted (set old at b) (at + 1) (omega (arith, length-set old at b));
       }
 
 pub adds-append : {old mid new xs ys : List ℕ} {a b c : ℕ} → Adds old a xs mid b → Adds mid b ys new c → Adds old a (xs ++ ys) new c
 adds-append {old} {xs} {ys} {a} p q = record {
   text-is = q .text-is ∙ rw (p .size-is, p .text-is, cut-once (length old) (take a old ++ xs) ys, append-assoc);
   size-is = q .size-is ∙ p .size-is;
-  within = q .within;
+  counts = q .counts;
 }
 
 -- so much of a slice is put, and then one byte more

@@ -3,6 +3,7 @@ use mathlib.Core.Path.{_≡_}
 use mathlib.Core.List.{List}
 use Prim.Native.Nat.{ℕ, _≤_}
 use lib.ListN.{length, take}
+use Rattle.io.specs.Counts.{Counts}
 use Rattle.command.specs.declared.files.Filled.{Filled}
 
 -- one read: the room has its length, and at most so many bytes are new
@@ -14,5 +15,5 @@ pub record SomePromise (old new : List ℕ) (r : Filled) : Type 0 where
 pub record FillPromise (old : List ℕ) (from : ℕ) (new : List ℕ) (r : Filled) : Type 0 where
   pub size-is : length new ≡ length old
   pub front-stays : take from new ≡ take from old
-  pub within : r .length ≤ length new
+  pub counts : Counts (r .length) new
   pub beyond : from ≤ length old → from ≤ r .length

@@ -2,11 +2,12 @@
 use mathlib.Core.Path.{_≡_}
 use mathlib.Core.List.{List, [], _∷_, _++_}
 use Prim.Native.Char.{code}
-use Prim.Native.Nat.{ℕ, suc, _+_, _^_, _≤_}
+use Prim.Native.Nat.{ℕ, suc, _+_, _^_}
 use Prim.Native.String.{String, [], _∷_}
 use lib.Dec.{ltb}
 use lib.ListN.{length, take}
 use Rattle.base.specs.Ranges.{lowest}
+use Rattle.io.specs.Counts.{Counts}
 use Rattle.io.specs.Digits.{digits}
 
 -- the bytes of an ASCII text
@@ -18,7 +19,7 @@ ascii (c ∷ s) = code c ∷ ascii s
 pub record Adds (old : List ℕ) (at : ℕ) (bytes new : List ℕ) (end : ℕ) : Type 0 where
   pub text-is : take end new ≡ take (length old) (take at old ++ bytes)
   pub size-is : length new ≡ length old
-  pub within : end ≤ length new
+  pub counts : Counts end new
 
 -- how many decimal digits a number of 64 bits has: the lowest number of digits that hold it, 1 at least
 abbrev pub places : ℕ → ℕ

@@ -1,5 +1,6 @@
 // What the programs share: text in a lent buffer, numbers and refusals as text, the bytes of a file, what is said on standard error, and how a
 // program ends.
+mod books;
 mod ending;
 mod files;
 mod lines;
@@ -8,6 +9,12 @@ mod saying;
 mod text;
 mod words;
 
+pub use books::Begun;
+pub use books::LARGE_ROOM;
+pub use books::Room;
+pub use books::SMALL_ROOM;
+pub use books::begin_book;
+pub use books::read_book;
 pub use ending::end;
 pub use files::Filled;
 pub use files::fill;

@@ -1,6 +1,5 @@
 // What a program says: lines on standard error, each after the program's name, and data on standard output.
-ghost use Prim.Native.Nat.{_≤_};
-ghost use lib.ListN.{length};
+ghost use Rattle.io.specs.Counts.{Counts};
 use crate::text::put;
 use libc::STDERR_FILENO;
 use libc::STDOUT_FILENO;
@@ -43,7 +42,7 @@ pub fn show(program: &[u8], data: &[u8]) -> bool {
 }
 
 fn put_name(line: &mut [u8], program: &[u8], what: &[u8]) -> usize
-    ensures { λ r. ⌜ r ≤ length (now (line .exit)) ⌝ }
+    ensures { λ r. ⌜ Counts r (now (line .exit)) ⌝ }
 {
     let a = put(&mut *line, 0, program);
     let b = put(&mut *line, a, b": ");
