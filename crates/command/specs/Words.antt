@@ -47,3 +47,7 @@ meaningText = concatMap (λ (s : String). ascii s ++ (0x0a ∷ [])) meanings
 
 abbrev pub refusalWords : ℕ → List ℕ
 refusalWords number = lineIn meaningText number
+
+-- a colon, and what the number means
+abbrev pub meaning : ℕ → List ℕ
+meaning number = ascii ": " ++ refusalWords number

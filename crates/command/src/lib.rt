@@ -25,5 +25,8 @@ pub use saying::fail;
 pub use saying::say;
 pub use saying::show;
 pub use text::put;
+pub use text::put_field;
+pub use text::put_joined;
 pub use text::put_number;
+pub use words::put_meaning;
 pub use words::put_words;

@@ -1,5 +1,5 @@
 // Text in a lent buffer. Each function puts bytes behind the text that ends at `at`, as far as there is room, and answers where it ends then.
-ghost use mathlib.Core.List.{_∷_, []};
+ghost use mathlib.Core.List.{_∷_, [], _++_};
 ghost use Rattle.command.specs.Text.{Adds, decimal};
 
 pub fn put(out: &mut [u8], at: usize, text: &[u8]) -> usize
@@ -21,6 +21,22 @@ pub fn put_number(out: &mut [u8], at: usize, n: u64) -> usize
     let mut digits = [0u8; 20];
     let k = io::decimal(n, &mut digits);
     put(out, at, &digits[..k])
+}
+
+// Two texts, one behind the other.
+pub fn put_joined(out: &mut [u8], at: usize, text: &[u8], more: &[u8]) -> usize
+    ensures { λ r. ⌜ Adds (now (out .entry)) at (now (text .entry) ++ now (more .entry)) (now (out .exit)) r ⌝ }
+{
+    let middle = put(&mut *out, at, text);
+    put(out, middle, more)
+}
+
+// A number behind its name.
+pub fn put_field(out: &mut [u8], at: usize, name: &[u8], n: u64) -> usize
+    ensures { λ r. ⌜ Adds (now (out .entry)) at (now (name .entry) ++ decimal n) (now (out .exit)) r ⌝ }
+{
+    let middle = put(&mut *out, at, name);
+    put_number(out, middle, n)
 }
 
 fn put_byte(out: &mut [u8], at: usize, b: u8) -> usize

@@ -1,6 +1,6 @@
 // The refusal numbers in words, a line for each from 0 on; `base` has them by name.
 ghost use Rattle.command.specs.Text.{Adds};
-ghost use Rattle.command.specs.Words.{refusalWords};
+ghost use Rattle.command.specs.Words.{refusalWords, meaning};
 use crate::lines;
 use crate::text;
 
@@ -43,4 +43,12 @@ pub fn put_words(out: &mut [u8], at: usize, number: u8) -> usize
 {
     let table = &WORDS;
     text::put(out, at, lines::line(table, number as usize))
+}
+
+// A colon, and what a refusal number means.
+pub fn put_meaning(out: &mut [u8], at: usize, number: u8) -> usize
+    ensures { λ r. ⌜ Adds (now (out .entry)) at (meaning number) (now (out .exit)) r ⌝ }
+{
+    let middle = text::put(&mut *out, at, b": ");
+    put_words(out, middle, number)
 }

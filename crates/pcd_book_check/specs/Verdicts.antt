@@ -6,21 +6,17 @@ use lib.Dec.{leb}
 use Rattle.book_check.specs.declared.Verdict.{Verdict}
 use Rattle.book_check.specs.declared.Verdict.the-variants.{Accepted, Faulty}
 use Rattle.command.specs.Text.{ascii, decimal}
-use Rattle.command.specs.Words.{refusalWords}
+use Rattle.command.specs.Words.{meaning}
 
 abbrev pub isYes : Verdict → Bool
 isYes Accepted = true
 isYes (Faulty number entry) = false
 
--- what a refusal number means
-abbrev pub meaningText : ℕ → List ℕ
-meaningText number = ascii ": " ++ refusalWords number
-
 -- the number of a fault, its entry unless it is of the whole book (13 and 16), and what it means
 abbrev pub faultText : ℕ → ℕ → List ℕ
 faultText number entry =
     let head = ascii "no: refusal " ++ decimal number in
-    cond (leb number 16) (head ++ meaningText number) (head ++ ascii " at entry " ++ decimal entry ++ meaningText number)
+    cond (leb number 16) (head ++ meaning number) (head ++ (ascii " at entry " ++ decimal entry) ++ meaning number)
 
 abbrev pub verdictText : Verdict → List ℕ
 verdictText Accepted = ascii "yes"
@@ -28,4 +24,4 @@ verdictText (Faulty number entry) = faultText number entry
 
 -- the file's name and the verdict
 abbrev pub verdictLine : List ℕ → Verdict → List ℕ
-verdictLine path verdict = path ++ ascii ": " ++ verdictText verdict ++ ascii "\n"
+verdictLine path verdict = (path ++ ascii ": ") ++ verdictText verdict ++ ascii "\n"

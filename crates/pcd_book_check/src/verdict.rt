@@ -1,19 +1,23 @@
 // The verdict of a book as a line of text.
 ghost use mathlib.Core.Path.{_≡_};
 ghost use mathlib.Core.Bool.{true};
-ghost use Rattle.book.specs.Faults.{viewRefusal};
+ghost use Rattle.book_check.specs.Checking.{verdict};
+ghost use Rattle.book_check.specs.declared.Verdict.the-variants.{Accepted};
 ghost use Rattle.command.specs.Text.{Adds};
-ghost use Rattle.pcd_book_check.specs.Verdicts.{verdictLine, verdictText, faultText, meaningText, isYes};
+ghost use Rattle.pcd_book_check.specs.Verdicts.{verdictLine, verdictText, faultText, isYes};
 use book_check::Verdict;
-use command::put;
-use command::put_number;
+use command::put_field;
+use command::put_meaning;
 
 // A path and its verdict.
 const LINE: usize = 4608;
 
+// The last fault that is one of the whole book.
+const WHOLE_BOOK: u8 = 16;
+
 // Writes the line of a book; true where it is accepted and the line is written.
 pub(crate) fn report(path: &[u8], book: &[u8]) -> bool
-    ensures { λ r. ⌜ (r ≡ true → viewRefusal (now (book .entry)) ≡ 0) ⌝ }
+    ensures { λ r. ⌜ (r ≡ true → verdict (now (book .entry)) ≡ Accepted) ⌝ }
 {
     let verdict = book_check::check(book);
     let mut space = [0u8; LINE];
@@ -40,10 +44,9 @@ fn is_yes(verdict: Verdict) -> bool
 fn put_line(out: &mut [u8], path: &[u8], verdict: Verdict) -> usize
     ensures { λ r. ⌜ Adds (now (out .entry)) 0 (verdictLine (now (path .entry)) verdict) (now (out .exit)) r ⌝ }
 {
-    let a = put(&mut *out, 0, path);
-    let b = put(&mut *out, a, b": ");
-    let c = put_verdict(&mut *out, b, verdict);
-    put(out, c, b"\n")
+    let named = command::put_joined(&mut *out, 0, path, b": ");
+    let told = put_verdict(&mut *out, named, verdict);
+    command::put(out, told, b"\n")
 }
 
 fn put_verdict(out: &mut [u8], at: usize, verdict: Verdict) -> usize
@@ -51,7 +54,7 @@ fn put_verdict(out: &mut [u8], at: usize, verdict: Verdict) -> usize
 {
     match verdict {
         Verdict::Accepted => {
-            return put(out, at, b"yes");
+            return command::put(out, at, b"yes");
         }
         Verdict::Faulty { number, entry } => {
             return put_fault(out, at, number, entry);
@@ -63,19 +66,10 @@ fn put_verdict(out: &mut [u8], at: usize, verdict: Verdict) -> usize
 fn put_fault(out: &mut [u8], at: usize, number: u8, entry: u64) -> usize
     ensures { λ r. ⌜ Adds (now (out .entry)) at (faultText number entry) (now (out .exit)) r ⌝ }
 {
-    let a = put(&mut *out, at, b"no: refusal ");
-    let b = put_number(&mut *out, a, base::wide(number));
-    if number <= 16 {
-        return put_meaning(out, b, number);
+    let refused = put_field(&mut *out, at, b"no: refusal ", number as u64);
+    if number <= WHOLE_BOOK {
+        return put_meaning(out, refused, number);
     }
-    let c = put(&mut *out, b, b" at entry ");
-    let d = put_number(&mut *out, c, entry);
-    put_meaning(out, d, number)
-}
-
-fn put_meaning(out: &mut [u8], at: usize, number: u8) -> usize
-    ensures { λ r. ⌜ Adds (now (out .entry)) at (meaningText number) (now (out .exit)) r ⌝ }
-{
-    let a = put(&mut *out, at, b": ");
-    command::put_words(out, a, number)
+    let placed = put_field(&mut *out, refused, b" at entry ", entry);
+    put_meaning(out, placed, number)
 }
