@@ -51,14 +51,14 @@ pub fn begin_book(program: &[u8], path: &[u8], fd: i32, header: &mut [u8; 4]) ->
     }
 }
 
-// The room for as many cycles as the header's first two bytes say.
+// The room for as many cycles as the header's first two bytes say. More than 255 are refused, whatever follows.
 fn room_for(high: u8, low: u8) -> Room {
     if high == 0 {
-        if low <= SMALL_CYCLES {
-            return Room::Small;
+        if SMALL_CYCLES < low {
+            return Room::Large;
         }
     }
-    Room::Large
+    Room::Small
 }
 
 // Puts the header into the room and reads the rest behind it; a line says where it cannot be read.
