@@ -22,7 +22,7 @@ abbrev pub refilled : List ℕ → ℕ → List ℕ → List ℕ
 refilled room end part = putMid end (length room - end) room part
 
 module _ (old : List ℕ) (from : ℕ) (room : List ℕ) (end : ℕ) (k : Kept old from room end) (h : end < length room)
-  (part : List ℕ) (r : Filled) (p : SomePromise (midOf end (length room - end) room) part r) where
+    (part : List ℕ) (r : Filled) (p : SomePromise (midOf end (length room - end) room) part r) where
   pub same-size : length (refilled room end part) ≡ length old
   same-size = same-len-mid end (length room - end) room part (p .size-is) ∙ k .size-is
 

@@ -37,7 +37,7 @@ module _ (text : List ℕ) (from : ℕ) where
         let inside : end - from < length (drop from text) = omega (arith, s .beyond, length-drop from text) in
         let byte : getD (drop from text) (end - from) 0 ≡ b = getD-drop from text (end - from) 0 ∙ ap (λ (k : ℕ). getD text k 0) place in
         let front : take (suc (end - from)) (drop from text) ≡ take (end - from) (drop from text) ++ (b ∷ [])
-              = take-suc (drop from text) (end - from) 0 inside ∙ rw byte in
+        = take-suc (drop from text) (end - from) 0 inside ∙ rw byte in
         let line = rw (here, ne-eqb b 0x0a other) at (s .line-goes-on) in
         let rest = rw (here, ne-eqb b 0x0a other) at (s .rest-same) in
         record {

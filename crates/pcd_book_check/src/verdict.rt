@@ -37,7 +37,10 @@ fn is_yes(verdict: Verdict) -> bool
 {
     match verdict {
         Verdict::Accepted => true,
-        Verdict::Faulty { number: _, entry: _ } => false,
+        Verdict::Faulty {
+            number: _,
+            entry: _,
+        } => false,
     }
 }
 

@@ -1,11 +1,11 @@
 // The answer of a lookup as a line of text.
 ghost use mathlib.Core.Path.{_≡_};
-ghost use Prim.Native.Nat.{_≤_, _<_};
 ghost use lib.ListN.{length, getD};
 ghost use Rattle.book.specs.Faults.{viewRefusal};
-ghost use Rattle.book.specs.Layout.{cyclesSaid, instantAt};
+ghost use Rattle.book.specs.Layout.{instantAt};
+ghost use Rattle.book_compare.specs.Merge.{Entered};
 ghost use Rattle.command.specs.Text.{Adds};
-ghost use Rattle.pcd_find.specs.Answers.{answerLine, instantsOf, InstantsPromise};
+ghost use Rattle.pcd_find.specs.Answers.{answerLine, foundText, noneText, refusedText, InstantsPromise};
 use base::big_endian;
 use command::put;
 use command::put_field;
@@ -55,7 +55,7 @@ fn put_instants(book: &[u8], out: &mut [u64]) -> usize
 
 // The instant of entry i.
 fn instant(book: &[u8], i: u64) -> u64
-    requires { ⌜ (viewRefusal (now book) ≡ 0) × (i < cyclesSaid (now book)) ⌝ }
+    requires { ⌜ Entered (now book) i ⌝ }
     ensures { λ r. ⌜ r ≡ instantAt (now (book .entry)) i ⌝ }
 {
     let entry = book::entry(book, i);
@@ -87,4 +87,37 @@ fn put_answer(out: &mut [u8], instants: &[u64], found: Found) -> usize
             return put_refused(out, number);
         }
     }
+}
+
+fn put_found(out: &mut [u8], place: u64, instant: u64, looks: u64) -> usize
+    ensures { λ r. ⌜ Adds (now (out .entry)) 0 (foundText place instant looks) (now (out .exit)) r ⌝ }
+{
+    let placed = put_field(&mut *out, 0, b"place ", place);
+    let timed = put_field(&mut *out, placed, b" instant ", instant);
+    let looked = put_field(&mut *out, timed, b" looks ", looks);
+    put(out, looked, b"\n")
+}
+
+fn put_none(out: &mut [u8], looks: u64) -> usize
+    ensures { λ r. ⌜ Adds (now (out .entry)) 0 (noneText looks) (now (out .exit)) r ⌝ }
+{
+    let looked = put_field(&mut *out, 0, b"none looks ", looks);
+    put(out, looked, b"\n")
+}
+
+fn put_refused(out: &mut [u8], number: u8) -> usize
+    ensures { λ r. ⌜ Adds (now (out .entry)) 0 (refusedText number) (now (out .exit)) r ⌝ }
+{
+    let refused = put_field(&mut *out, 0, b"refusal ", number as u64);
+    put(out, refused, b"\n")
+}
+
+// An element, 0 past the end.
+fn element(list: &[u64], i: usize) -> u64
+    ensures { λ r. ⌜ r ≡ getD (now (list .entry)) i 0 ⌝ }
+{
+    if i < list.len() {
+        return list[i];
+    }
+    0
 }

@@ -73,7 +73,11 @@ fn instant_of(i: usize) -> Parsed {
     let parsed = command::number(&word[..n]);
     match parsed {
         Parsed::Value(_) => (),
-        Parsed::NotANumber => command::say(b"pcd-find", &word[..n], b"not an instant: a number of sixteenths of a millisecond is asked for"),
+        Parsed::NotANumber => command::say(
+            b"pcd-find",
+            &word[..n],
+            b"not an instant: a number of sixteenths of a millisecond is asked for",
+        ),
     }
     parsed
 }
