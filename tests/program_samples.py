@@ -98,5 +98,49 @@ def check():
           "".join("%s: %s\n" % (name, said) for name, (_, said) in books.items()) + "1\n")
 
 
+def find():
+    """Around each instant of a book of two cycles, in a book of none, and in one that is refused."""
+    books = {"pair": PAIR, "none": book(1999, []), "falling-year": struct.pack(">HH", 0, 1998)}
+    first, last = instant(*FIRST), instant(*THIRD)
+    # Halving a list of two looks at place 1, then, where that is above, at place 0.
+    asked = [
+        ("pair", first - 1, "none looks 2"),
+        ("pair", first, "place 0 instant %d looks 2" % first),
+        ("pair", last - 1, "place 0 instant %d looks 2" % first),
+        ("pair", last, "place 1 instant %d looks 1" % last),
+        ("pair", 9999999999999999999, "place 1 instant %d looks 1" % last),
+        ("none", 0, "none looks 0"),
+        ("falling-year", 0, None),
+        ("absent", 0, None),
+        ("none", "12x", None),
+        ("none", "", None),
+    ]
+    store("pcd_find", ["1"] + [str(word) for name, wanted, _ in asked for word in (name, wanted)], books,
+          "".join(said + "\n" for _, _, said in asked if said) + "1\n")
+
+
+def compare():
+    """Equal books, none of whose cycles are in both, some in both, and a byte at the end of a body."""
+    books = {"pair": PAIR, "last": book(2000, [THIRD]), "none": book(2000, []), "other-year": book(2001, [])}
+    books["last-byte"] = changed(books["last"], len(books["last"]) - 1, 9)
+    first, last = instant(*FIRST), instant(*THIRD)
+    asked = [
+        ("pair", "pair", ""),
+        ("none", "none", ""),
+        ("pair", "last", "instant %d: only in the first\n" % first),
+        ("last", "pair", "instant %d: only in the second\n" % first),
+        ("pair", "none", "instant %d: only in the first\ninstant %d: only in the first\n" % (first, last)),
+        ("last", "last-byte", "instant %d: in both, the first different byte is 65535\n" % last),
+        ("last-byte", "pair", "instant %d: only in the second\ninstant %d: in both, the first different byte is 65535\n" % (first, last)),
+        ("none", "other-year", ""),
+        ("none", "absent", ""),
+    ]
+    # The highest status of all: 2, for the years of two books differ.
+    store("pcd_book_compare", ["1"] + [name for first, second, _ in asked for name in (first, second)], books,
+          "".join(said for _, _, said in asked) + "2\n")
+
+
 if __name__ == "__main__":
     check()
+    find()
+    compare()

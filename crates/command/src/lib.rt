@@ -22,6 +22,7 @@ pub use lines::line;
 pub use numbers::Parsed;
 pub use numbers::number;
 pub use saying::fail;
+pub use saying::refuse;
 pub use saying::say;
 pub use saying::show;
 pub use text::put;

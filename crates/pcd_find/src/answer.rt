@@ -19,24 +19,12 @@ const MOST_CYCLES: usize = 255;
 pub(crate) fn report(path: &[u8], book: &[u8], wanted: u64) -> bool {
     let number = book::view_refusal(book);
     if number != 0 {
-        refuse(path, number);
+        command::refuse(b"pcd-find", path, number);
         return false;
     }
     let mut space = [0u64; MOST_CYCLES];
     let n = put_instants(book, &mut space);
     show_answer(&space[..n], wanted)
-}
-
-// The line `pcd-find: PATH: refusal N: WORDS`.
-fn refuse(path: &[u8], number: u8) {
-    let mut space = [0u8; LINE];
-    say_refusal(path, number, &mut space);
-}
-
-fn say_refusal(path: &[u8], number: u8, words: &mut [u8]) {
-    let refused = put_field(&mut *words, 0, b"refusal ", number as u64);
-    let told = command::put_meaning(&mut *words, refused, number);
-    command::say(b"pcd-find", path, &words[..told]);
 }
 
 // Puts the instants of an accepted book's entries into the list and answers how many there are.
