@@ -26,13 +26,20 @@ stack() {
         echo "$name: the limit of the stack is $limit KiB and cannot be raised to $1: large books will not fit" >&2
 }
 
-# run CRATE WORD..: the program, built on first use. Standard input and output that are closed stay ones that cannot be used, and a closed pipe
-# is an error of writing, which the program says.
+# standard_input: where there is none, a line says so.
+standard_input() {
+    { : 5<&0; } 2>/dev/null && return
+    echo "$name: standard input is closed" >&2
+    exit 1
+}
+
+# run CRATE WORD..: the program, built on first use. A standard output that is closed stays one that cannot be written, and a closed pipe is an
+# error of writing, which the program says.
 run() {
     local program=$root/target/bin/$1 said status
     [ -x "$program" ] || (cd "$root" && rt check "$1") >&2 || exit 1
     shift
-    { : 5<&0; } 2>/dev/null || exec 0>/dev/null
+    { : 5<&0; } 2>/dev/null || exec 0</dev/null
     { : 5>&1; } 2>/dev/null || exec 1</dev/null
     trap '' PIPE
     exec 4>&1
