@@ -194,8 +194,8 @@ module _ (vote : Vote) where
       n : Now
       n = byteStep vote t a b
 
-      given : (wordGiven (byteEvent vote (t .groups .«open») (t .groups) b) ≡ none) ×
-      (afterByte (byteEvent vote (t .groups .«open») (t .groups) b) (t .groups) b .«open» ≡ 0)
+      given : (wordGiven (byteEvent vote (t .groups .«open») (t .groups) b) ≡ none)
+          × (afterByte (byteEvent vote (t .groups .«open») (t .groups) b) (t .groups) b .«open» ≡ 0)
       given = quiet-byte (t .groups .«open») (t .groups) b z (q .0)
 
       byte : PassesByte t n (afterByte (byteEvent vote (t .groups .«open») (t .groups) b) (t .groups) b)
