@@ -362,8 +362,7 @@ module _ (f : Feeder) (piece : List ℕ) (ends : Bool) (old : List ℕ) (a : rel
   accepted = p .led .accepted
 
   two-calls : RelockedCalls true (f .tally) old (take (answer (toLock d) .taken) piece) (takes l ∷ takes (toLock d) ∷ []) (locked d)
-  (answer (toLock d) .tally)
-      (answer (toLock d) .area) 1
+      (answer (toLock d) .tally) (answer (toLock d) .area) 1
   two-calls =
       rw (append-nil, taken-whole d accepted) at (leads-in (callOf (f .tally) piece old) (p .lead-accepted) accepted (at-lock .outside-group) other done)
 
