@@ -194,11 +194,13 @@ module _ (vote : Vote) where
       n : Now
       n = byteStep vote t a b
 
-      given : (wordGiven (byteEvent vote (t .groups .«open») (t .groups) b) ≡ none)
-          × (afterByte (byteEvent vote (t .groups .«open») (t .groups) b) (t .groups) b .«open» ≡ 0)
+      e : ByteEvent
+      e = byteEvent vote (t .groups .«open») (t .groups) b
+
+      given : (wordGiven e ≡ none) × (afterByte e (t .groups) b .«open» ≡ 0)
       given = quiet-byte (t .groups .«open») (t .groups) b z (q .0)
 
-      byte : PassesByte t n (afterByte (byteEvent vote (t .groups .«open») (t .groups) b) (t .groups) b)
+      byte : PassesByte t n (afterByte e (t .groups) b)
       byte = passes-byte t a b (given .0)
 
       no-stop : stopsAt vote true t a b ≡ false

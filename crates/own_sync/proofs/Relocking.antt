@@ -10,13 +10,14 @@ use lib.Dec.{ltb}
 use lib.ListN.{length, take, length-append}
 use lib.Seq.{take-all, length-take-le}
 use borrow.Author.Tests.{lt-ltb, le-ltb}
-use Rattle.base.specs.Lists.{concatMap, one}
+use Rattle.base.specs.Lists.{concatMap, sumBy, one}
+use Rattle.labelling.specs.declared.FrameClass.the-variants.{Good, Damaged, Unsynced}
 use Rattle.labelling.specs.declared.Tally.{Tally}
 use Rattle.labelling.specs.declared.Word.{Word}
 use Rattle.labelling.specs.Words.{outside, Vote, words}
 use Rattle.labelling.specs.Votes.{ruleVote}
-use Rattle.labelling.specs.MinorFrames.{frames}
-use Rattle.labelling.specs.MajorFrames.{values, majors}
+use Rattle.labelling.specs.MinorFrames.{frames, classed}
+use Rattle.labelling.specs.MajorFrames.{values, majors, runs, inBroken, inLoose, inBuilding, stored, putFrames}
 use Rattle.labelling.specs.Machine.{stateOf, fresh}
 use Rattle.labelling.specs.Order.{isRule}
 use Rattle.labelling.specs.Calls.{TakeCall, takeRefusal, Answer, progressOf, answer, taken, DutyCall, dutyRefusal, dutyAnswer}
@@ -317,6 +318,16 @@ module _ (rule : ℕ) (a₀ : List ℕ) where
     each-word = own-each-word (words vote bs);
     frames-are = same;
     paid-is = paid-now;
+    counts = record {
+      good-is = all .counts .good-is ∙ ap (classed Good) same;
+      damaged-is = all .counts .damaged-is ∙ ap (classed Damaged) same;
+      unsynced-is = all .counts .unsynced-is ∙ ap (classed Unsynced) same;
+      majors-is = all .counts .majors-is ∙ ap (λ (fs : List (List Word)). length (majors fs)) same;
+      broken-is = all .counts .broken-is ∙ ap (λ (fs : List (List Word)). sumBy inBroken (runs fs)) same;
+      loose-is = all .counts .loose-is ∙ ap (λ (fs : List (List Word)). sumBy inLoose (runs fs)) same;
+      building-is = all .counts .building-is ∙ ap (λ (fs : List (List Word)). sumBy inBuilding (runs fs)) same;
+      area-is = all .area-is ∙ ap (λ (fs : List (List Word)). putFrames a₀ (concatMap stored (runs fs))) same;
+    };
     lead-ins-are = found;
     bytes-are = all .counts .bytes-is ∙ r .length-is;
     unled = unled;
