@@ -1,32 +1,29 @@
 -- The move of a step is read off the piece, and what it is then. Assumes nothing.
 use mathlib.Core.Path.{_≡_, refl, sym, ap, _∙_}
-use mathlib.Core.Bool.{Bool, true, false, cond, _&&_, _||_, not, true≢false}
+use mathlib.Core.Bool.{Bool, true, false, cond, _||_, true≢false}
 use mathlib.Core.List.{List, [], _∷_, _++_}
-use Prim.Native.Nat.{ℕ, zero, suc, _≤_, _<_}
+use Prim.Native.Nat.{ℕ, suc, _≤_, _<_}
 use native.Mathlib.Omega.{arith}
-use lib.Dec.{eqb, ltb}
+use lib.Dec.{eqb}
 use lib.ListN.{length, getD, take, drop}
 use lib.Seq.{take-all, drop-cons}
-use borrow.Author.Tests.{lt-ltb, le-ltb, ltb-true, ltb-false, eqb-true, eqb-false, eq-eqb, ne-eqb}
-use Rattle.base.specs.Format.{SYNC, syncWord}
-use Rattle.labelling.specs.declared.Word.{Word}
+use borrow.Author.Tests.{lt-ltb, le-ltb, eqb-true}
+use Rattle.base.specs.Format.{SYNC}
 use Rattle.labelling.specs.Words.{Vote, outside, words}
 use Rattle.labelling.specs.Votes.{ruleVote}
-use Rattle.labelling.specs.MinorFrames.{isWord}
 use Rattle.labelling.specs.Machine.{State, stateOf}
-use Rattle.labelling.specs.Calls.{TakeCall, takeRefusal, answer}
+use Rattle.labelling.specs.Calls.{takeRefusal, answer}
 use Rattle.labelling.proofs.CallLaws.{accepted-answer}
 use Rattle.labelling.proofs.Ordered.{Ordered, ordered, tally-ordered}
 use Rattle.own_sync.specs.Locks.{toLock}
 use Rattle.own_sync.specs.OwnCut.{endsBehind}
 use Rattle.own_sync.specs.Relocking.{openGroup, wordsNext, noWord, OtherWord, other-word}
 use Rattle.own_sync.proofs.Locks.{part-accepted}
-use Rattle.reader.specs.Shapes.{callOf}
 use Rattle.feeding.specs.declared.relock.Feeder.{Feeder}
 use Rattle.feeding.specs.declared.relock.Relocked.{Relocked}
-use Rattle.feeding.specs.Relock.{relockRefusal, Move, reads, asks, leads, beforeGroup, givesFirst, decision, move, callOn, RelockPromise, ReadsOn, LeadsIn}
-use Rattle.feeding.proofs.Waiting.{NoSync, Waits, Passes, passes-all, quiet-all, quiet-words}
-use Rattle.feeding.proofs.Relocking.{Accepts, accepts, InOrder, in-order, waits-now, left-is, step-reads, step-asks, step-leads}
+use Rattle.feeding.specs.Relock.{relockRefusal, reads, beforeGroup, givesFirst, move, callOn, RelockPromise, ReadsOn, LeadsIn}
+use Rattle.feeding.proofs.Waiting.{NoSync, Waits, passes-all, quiet-all, quiet-words}
+use Rattle.feeding.proofs.Relocking.{accepts, InOrder, in-order, waits-now, left-is, step-reads, step-asks, step-leads}
 
 -- ---- the bytes before the first SYNC
 
@@ -180,11 +177,13 @@ module _ (f : Feeder) (piece : List ℕ) (ends : Bool) (old : List ℕ) (a : rel
           by-length [] e = refl
           by-length (b ∷ p) e = absurd (omega arith)
 
-          outside : takeRefusal (callOn f piece (length piece) old) ≡ 0 → (ends ≡ true → answer (toLock (callOn f piece (length piece) old)) .taken < length piece)
+          outside : takeRefusal (callOn f piece (length piece) old) ≡ 0
+              → (ends ≡ true → answer (toLock (callOn f piece (length piece) old)) .taken < length piece)
               → answer (toLock (callOn f piece (length piece) old)) .tally .groups .«open» ≡ 0
           outside e not-all = go ends refl now
             where
-              go : (b : Bool) → ends ≡ b → (b || eqb (length piece) 0) ≡ true → answer (toLock (callOn f piece (length piece) old)) .tally .groups .«open» ≡ 0
+              go : (b : Bool) → ends ≡ b → (b || eqb (length piece) 0) ≡ true
+                  → answer (toLock (callOn f piece (length piece) old)) .tally .groups .«open» ≡ 0
               go true q w = absurd (omega (arith, not-all q, passed (length piece) none e .0, ap length all-of))
               go false q w =
                   let c = callOn f piece (length piece) old in
@@ -204,14 +203,17 @@ module _ (f : Feeder) (piece : List ℕ) (ends : Bool) (old : List ℕ) (a : rel
         whole = first-word vote (at-head piece head) many
 
         -- FA
-        pub reads-frame : givesFirst vote piece ≡ true → (r : Relocked) (new : List ℕ) → ReadsOn f piece false old r new → RelockPromise f piece ends old r new
+        pub reads-frame : givesFirst vote piece ≡ true → (r : Relocked) (new : List ℕ) → ReadsOn f piece false old r new
+            → RelockPromise f piece ends old r new
         unfolding move
         reads-frame fa r new p =
             step-reads f piece ends old a (length piece) (rw (z, head, le-ltb (length piece) 4 many, fa)) (omega arith) (λ h. h) false
-            (rw (z, all-of, next-is piece, whole .0)) (λ w. rw (all-of, next-is piece) (whole .1 ∙ fa)) (λ e w. absurd (true≢false (sym w))) r new (rw all-of p)
+            (rw (z, all-of, next-is piece, whole .0)) (λ w. rw (all-of, next-is piece) (whole .1 ∙ fa)) (λ e w. absurd (true≢false (sym w))) r new
+            (rw all-of p)
 
         -- any other word
         pub leads-other : givesFirst vote piece ≡ false → (r : Relocked) (new : List ℕ) → LeadsIn f piece old r new → RelockPromise f piece ends old r new
         unfolding move
         leads-other another r new p =
-            step-leads f piece ends old a (rw (z, head, le-ltb (length piece) 4 many, another)) z (other-group vote (at-head piece head) many another) r new p
+            step-leads f piece ends old a (rw (z, head, le-ltb (length piece) 4 many, another)) z
+            (other-group vote (at-head piece head) many another) r new p

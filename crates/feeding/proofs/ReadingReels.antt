@@ -1,13 +1,13 @@
 -- A whole reel by steps. What is read so far is a list of calls that locks on a frame's own sync, which has taken the stream as far as the place reached;
 -- the claim about that list bounds its lead-ins, so that no step is refused. Assumes nothing.
 use mathlib.Core.Path.{_≡_, refl, sym, ap, _∙_}
-use mathlib.Core.Bool.{Bool, true, false, cond, _||_, not}
+use mathlib.Core.Bool.{Bool, true, false, cond, not}
 use mathlib.Core.List.{List, [], _∷_, _++_, append-assoc}
-use Prim.Native.Nat.{ℕ, zero, suc, _+_, _-_, _*_, _^_, _≤_, _<_}
+use Prim.Native.Nat.{ℕ, zero, suc, _+_, _-_, _^_, _≤_, _<_}
 use native.Mathlib.Nat.{zero-add, suc-add}
 use native.Mathlib.Omega.{arith}
 use lib.Dec.{eqb, ltb, eqb·suc-zero}
-use lib.ListN.{length, take, drop, length-append, length-drop, length-take}
+use lib.ListN.{length, take, drop, length-append, length-drop}
 use lib.Seq.{take-add, take-all, length-take-le}
 use borrow.Author.Tests.{lt-ltb, le-ltb, ltb-false, eqb-true, eq-eqb, ne-eqb}
 use Rattle.base.specs.Lists.{one}
@@ -15,7 +15,7 @@ use Rattle.labelling.specs.declared.Tally.{Tally}
 use Rattle.labelling.specs.Words.{words}
 use Rattle.labelling.specs.Votes.{ruleVote}
 use Rattle.labelling.specs.Machine.{fresh}
-use Rattle.labelling.specs.Order.{isRule, inOrder}
+use Rattle.labelling.specs.Order.{isRule}
 use Rattle.labelling.specs.Calls.{Call, taken, paid}
 use Rattle.own_sync.specs.Locks.{toLock}
 use Rattle.own_sync.specs.OwnCut.{seeks}
@@ -27,11 +27,12 @@ use Rattle.own_sync.proofs.Relocking.{own-once}
 use Rattle.feeding.specs.declared.relock.Feeder.{Feeder}
 use Rattle.feeding.specs.declared.relock.Reel.{Reel}
 use Rattle.feeding.specs.declared.relock.Relocked.{Relocked}
-use Rattle.feeding.specs.Relock.{feederInOrder, relockRefusal, Move, reads, asks, leads, beforeGroup, givesFirst, move, moved, ledBy, RelockPromise}
+use Rattle.feeding.specs.Relock.{feederInOrder, relockRefusal, Move, reads, asks, leads, beforeGroup, givesFirst, move, moved, ledBy}
+use Rattle.feeding.specs.Relock.{RelockPromise}
 use Rattle.feeding.specs.Relock.{longest, refusalAfter, readRefusal, beginning, WholeReel, ReadPromise, Begins, ReadAll}
 use Rattle.labelling.specs.Once.{freshRefusal, ruleGiven}
 use Rattle.feeding.proofs.CallLists.{paid-append, paid-none}
-use Rattle.feeding.proofs.Relocking.{Accepts, accepts, accepted-by, InOrder, order-of}
+use Rattle.feeding.proofs.Relocking.{accepted-by, order-of}
 
 -- ---- one list after another
 
@@ -224,11 +225,16 @@ module _ (rule : ℕ) (stream old : List ℕ) (t : Tally) (e : t ≡ fresh (rule
   begun-is : begun ≡ beginning (ruleGiven rule)
   begun-is = ap (λ (x : Tally). record { tally = x; awaits = false; handed = 0 }) e
 
+  abbrev answered : ℕ → Feeder → Reel
+  answered n f = record { refusal = n; paid = 0; feeder = f }
+
   pub read-refused : (n : ℕ) → n ≡ readRefusal rule (length stream) (length old) → (n ≡ 0 → ⊥)
       → ReadPromise rule stream old (record { refusal = n; paid = 0; feeder = begun }) old
   read-refused n q h = record {
     refusal-is = q;
-    refused = λ k z. (ap (λ (x : ℕ). record { refusal = x; paid = 0; feeder = begun }) z ∙ ap (λ (x : Feeder). record { refusal = suc k; paid = 0; feeder = x }) begun-is, refl);
+    refused = λ k z.
+        let number : answered n begun ≡ answered (suc k) begun = ap (λ (x : ℕ). answered x begun) z in
+        (number ∙ ap (answered (suc k)) begun-is, refl);
     accepted = λ z. absurd (h z);
   }
 

@@ -2,28 +2,24 @@
 -- a lock that goes on waiting has met no word. Assumes nothing.
 use mathlib.Core.Path.{_≡_, refl, sym, ap, _∙_}
 use mathlib.Core.Bool.{Bool, true, false, cond, _&&_, _||_, not, true≢false, or-comm}
-use mathlib.Core.List.{List, [], _∷_, _++_, append-nil}
-use Prim.Native.Nat.{ℕ, zero, suc, _+_, _*_, _/_, _^_, _≤_, _<_}
+use mathlib.Core.List.{List, [], _∷_, append-nil}
+use Prim.Native.Nat.{ℕ, suc, _+_, _/_, _^_, _≤_, _<_}
 use native.Mathlib.Omega.{arith}
 use lib.Dec.{eqb, leb, ltb}
-use lib.ListN.{length, getD, take, length-take}
-use lib.Seq.{take-take, length-take-le, take-all}
-use borrow.Author.Tests.{lt-ltb, le-ltb, ltb-true, ltb-false, eqb-true, eqb-false, eq-eqb, ne-eqb, le-leb, leb-true, not-true, not-false}
-use Rattle.base.specs.Format.{SYNC, syncWord}
+use lib.ListN.{length, take}
+use lib.Seq.{take-take, length-take-le}
+use borrow.Author.Tests.{lt-ltb, le-ltb, ltb-true, ltb-false, eqb-true, eq-eqb, ne-eqb, le-leb, leb-true, not-true, not-false}
 use Rattle.base.specs.Lists.{one}
 use Rattle.labelling.specs.declared.Tally.{Tally}
-use Rattle.labelling.specs.declared.Word.{Word}
-use Rattle.labelling.specs.Words.{Vote, outside, words}
 use Rattle.labelling.specs.Votes.{ruleVote}
-use Rattle.labelling.specs.MinorFrames.{isWord}
 use Rattle.labelling.specs.Machine.{State, stateOf}
 use Rattle.labelling.specs.Order.{inOrder}
-use Rattle.labelling.specs.Calls.{TakeCall, takeRefusal, Answer, feed, answer, taken, pays, Call, takes, paid}
+use Rattle.labelling.specs.Calls.{TakeCall, takeRefusal, Answer, feed, answer, taken, pays, takes, paid}
 use Rattle.labelling.proofs.CallLaws.{no-refusal, accepted-answer, accepted-extent, accepted-bytes, answer-ordered}
 use Rattle.labelling.proofs.Ordered.{Ordered, ordered, tally-ordered}
-use Rattle.own_sync.specs.Locks.{locks, upTo, toLock}
+use Rattle.own_sync.specs.Locks.{locks, toLock}
 use Rattle.own_sync.specs.OwnCut.{endsBehind}
-use Rattle.own_sync.specs.Relocking.{openGroup, wordsNext, noWord, locked, awaitsAfter, leadInBytes, leadIn, afterLeadIn, OtherWord, other-word}
+use Rattle.own_sync.specs.Relocking.{wordsNext, noWord, locked, awaitsAfter, leadInBytes, leadIn, OtherWord}
 use Rattle.own_sync.specs.Relocking.{Relocked as RelockedCalls, done, takes-on, leads-in}
 use Rattle.own_sync.proofs.Locks.{up-prefix, up-shorter, part-accepted}
 use Rattle.reader.specs.declared.Locked.{Locked}
@@ -31,10 +27,10 @@ use Rattle.reader.specs.declared.Taken.{Taken}
 use Rattle.reader.specs.Shapes.{callOf, answerOf, TakePromise, LockPromise}
 use Rattle.feeding.specs.declared.relock.Feeder.{Feeder}
 use Rattle.feeding.specs.declared.relock.Relocked.{Relocked}
-use Rattle.feeding.specs.Relock.{standsAtLock, feederInOrder, relockRefusal, refusedFeeder, Move, reads, asks, leads, beforeGroup, givesFirst, decision}
-use Rattle.feeding.specs.Relock.{move, called, callOn, callLed, moved, areaMoved, ledBy, RelockPromise, Called, ReadsOn, LeadsIn}
+use Rattle.feeding.specs.Relock.{standsAtLock, feederInOrder, relockRefusal, refusedFeeder, reads, asks, leads}
+use Rattle.feeding.specs.Relock.{move, called, callOn, callLed, RelockPromise, Called, ReadsOn, LeadsIn}
 use Rattle.feeding.proofs.CallLists.{paid-one, paid-none}
-use Rattle.feeding.proofs.Waiting.{NoSync, Waits, locked-waits, Passes, passes-all, quiet-all, quiet-words, few-complete-none}
+use Rattle.feeding.proofs.Waiting.{Waits, locked-waits, few-complete-none}
 
 -- ---- the refusal
 
@@ -128,6 +124,11 @@ call-accepted f part old e =
 
 -- ---- one call as far as a lock
 
+-- the answer of an accepted step that makes a call
+abbrev stepOf : ℕ → Bool → Tally → Bool → ℕ → Relocked
+stepOf taken complete t awaits n =
+    record { refusal = 0; taken = taken; complete = complete; more = false; feeder = record { tally = t; awaits = awaits; handed = n } }
+
 module _ (c : TakeCall) (e : takeRefusal c ≡ 0) (l : Locked) (new : List ℕ) (p : LockPromise c l new) where
   part : TakePromise (toLock c) (l .taken) new
   part = p .accepted e
@@ -148,13 +149,11 @@ module _ (c : TakeCall) (e : takeRefusal c ≡ 0) (l : Locked) (new : List ℕ) 
 
   pub called-so : (awaits b : Bool) (n : ℕ) → awaits ≡ b
       → let r = l .taken in
-      Called c b n
-      (record { refusal = 0; taken = r .taken; complete = r .complete; more = false; feeder = record { tally = r .tally; awaits = awaits; handed = n } }) new
+      Called c b n (stepOf (r .taken) (r .complete) (r .tally) awaits n) new
   called-so awaits b n z = record {
     accepted = e;
     answer-is =
-        ap (λ (a : Answer). record { refusal = 0; taken = a .taken; complete = a .complete; more = false; feeder = record { tally = a .tally; awaits = awaits; handed = n } })
-        same
+        ap (λ (a : Answer). stepOf (a .taken) (a .complete) (a .tally) awaits n) same
         ∙ ap (λ (x : Bool). called c x n) z;
     area-is = ap (λ (a : Answer). a .area) same;
     within = omega (arith, part .within, up-shorter (ruleVote (c .tally .rule)) true (c .piece) (stateOf (c .tally)) (c .area));
@@ -200,8 +199,7 @@ module _ (f : Feeder) (piece old : List ℕ) (a : relockRefusal f (length piece)
 
   pub leads-so : (l : Locked) (new : List ℕ) → LockPromise (callOf (s .tally) piece mid) l new
       → let r = l .taken in
-      LeadsIn f piece old
-      (record { refusal = 0; taken = r .taken; complete = r .complete; more = false; feeder = record { tally = r .tally; awaits = l .locked; handed = f .handed + 1 } }) new
+      LeadsIn f piece old (stepOf (r .taken) (r .complete) (r .tally) (l .locked) (f .handed + 1)) new
   leads-so l new p =
       let p′ : LockPromise (callLed f piece old) l new = rw led-is at p in
       record {
@@ -288,7 +286,8 @@ module _ (f : Feeder) (piece : List ℕ) (ends : Bool) (old : List ℕ) (a : rel
         let order = in-order f (accepts f (length piece) (length old) a .order) in
         order-of _ record {
           in-tally = answer-ordered (toLock c) (order .in-tally);
-          at-lock = either waits (locked c) (answer (toLock c) .tally) (λ w. waiting (p .accepted) w not-all) (λ l. lock-left c (p .accepted) (order .in-tally) l);
+          at-lock = either waits (locked c) (answer (toLock c) .tally) (λ w. waiting (p .accepted) w not-all)
+              (λ l. lock-left c (p .accepted) (order .in-tally) l);
           few = omega (arith, order .few, left-bytes c (p .accepted));
         }
 
@@ -362,8 +361,8 @@ module _ (f : Feeder) (piece : List ℕ) (ends : Bool) (old : List ℕ) (a : rel
   accepted : takeRefusal d ≡ 0
   accepted = p .led .accepted
 
-  two-calls : RelockedCalls true (f .tally) old (take (answer (toLock d) .taken) piece) (takes l ∷ takes (toLock d) ∷ []) (locked d) (answer (toLock d) .tally)
-      (answer (toLock d) .area) 1
+  two-calls : RelockedCalls true (f .tally) old (take (answer (toLock d) .taken) piece) (takes l ∷ takes (toLock d) ∷ []) (locked d)
+      (answer (toLock d) .tally) (answer (toLock d) .area) 1
   two-calls =
       rw (append-nil, taken-whole d accepted) at (leads-in (callOf (f .tally) piece old) (p .lead-accepted) accepted (at-lock .outside-group) other done)
 

@@ -15,12 +15,13 @@ use Rattle.labelling.specs.declared.Framing.{Framing}
 use Rattle.labelling.specs.declared.Groups.{Groups}
 use Rattle.labelling.specs.declared.Word.{Word}
 use Rattle.labelling.specs.declared.Word.the-variants.{Voted, Erased}
-use Rattle.labelling.specs.Words.{Vote, Outside, opening, filling, straying, outside, groups, words}
+use Rattle.labelling.specs.Words.{Vote, filling, straying, outside, groups, words}
 use Rattle.base.specs.Format.{SYNC, FILL}
 use Rattle.labelling.specs.MinorFrames.{isWord}
 use Rattle.labelling.specs.Machine.{ByteEvent, outer, first-copy, second-copy, closes, afterByte, WordEvent, hunts, locks, fills, closes-frame}
-use Rattle.labelling.specs.Machine.{syncWord, syncedBytes, bytesClass, filled, marked, wordEvent, afterWord, State, Now, wordStep, wordGiven, byteEvent, byteStep}
-use Rattle.labelling.specs.Calls.{Progress, andOne, feed}
+use Rattle.labelling.specs.Machine.{syncWord, syncedBytes, bytesClass, filled, marked, wordEvent, afterWord, State, Now, wordStep, wordGiven}
+use Rattle.labelling.specs.Machine.{byteEvent, byteStep}
+use Rattle.labelling.specs.Calls.{Progress, feed}
 use Rattle.labelling.proofs.ByteLayer.{asList}
 use Rattle.labelling.proofs.Feeding.{feed-complete, feed-more}
 use Rattle.labelling.proofs.Ordered.{Ordered, ordered-byte}
@@ -82,7 +83,8 @@ hunt-locks f frame w empty = go (f .hunting) refl (isWord (syncWord (f .matched)
     go false h next last first false = λ z. absurd (not-hunting (afterWord (closes-frame class) f w .hunting) h z)
 
 module _ (vote : Vote) where
-  lock-waits : (t : State) (a : List ℕ) (b : ℕ) → Ordered t → let n = byteStep vote t a b in endsHunt (t .framing) (n .state .framing) ≡ true → Waits (n .state)
+  lock-waits : (t : State) (a : List ℕ) (b : ℕ) → Ordered t → let n = byteStep vote t a b in endsHunt (t .framing) (n .state .framing) ≡ true
+      → Waits (n .state)
   unfolding byteStep
   lock-waits t a b o = go (wordGiven e) refl
     where
@@ -192,10 +194,13 @@ module _ (vote : Vote) where
       n : Now
       n = byteStep vote t a b
 
-      given : (wordGiven (byteEvent vote (t .groups .«open») (t .groups) b) ≡ none) × (afterByte (byteEvent vote (t .groups .«open») (t .groups) b) (t .groups) b .«open» ≡ 0)
+      e : ByteEvent
+      e = byteEvent vote (t .groups .«open») (t .groups) b
+
+      given : (wordGiven e ≡ none) × (afterByte e (t .groups) b .«open» ≡ 0)
       given = quiet-byte (t .groups .«open») (t .groups) b z (q .0)
 
-      byte : PassesByte t n (afterByte (byteEvent vote (t .groups .«open») (t .groups) b) (t .groups) b)
+      byte : PassesByte t n (afterByte e (t .groups) b)
       byte = passes-byte t a b (given .0)
 
       no-stop : stopsAt vote true t a b ≡ false

@@ -13,7 +13,7 @@ use Rattle.labelling.specs.Votes.{ruleVote}
 use Rattle.labelling.specs.MinorFrames.{isWord}
 use Rattle.labelling.specs.Machine.{fresh}
 use Rattle.labelling.specs.Order.{isRule, inOrder}
-use Rattle.labelling.specs.Calls.{TakeCall, takeRefusal, Answer, answer, Call, paid}
+use Rattle.labelling.specs.Calls.{TakeCall, takeRefusal, answer, Call, paid}
 use Rattle.labelling.specs.Once.{freshRefusal, ruleGiven}
 use Rattle.own_sync.specs.Locks.{toLock}
 use Rattle.own_sync.specs.OwnOnce.{OwnOnce}

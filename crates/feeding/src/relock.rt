@@ -199,8 +199,8 @@ fn lead_in(f: Feeder, piece: &[u8], area: &mut [u8]) -> Relocked
     let lead = reader::take(t, b"\x16\xfa\xfa\xfa\x16\xf3\xf3\xf3\x16\x20\x20\x20", area);
     let led = lead.tally;
     let r = reader::take_to_lock(led, piece, area);
-    let answer = r.taken;
-    let left = answer.tally;
+    let last = r.taken;
+    let left = last.tally;
     let next = Feeder {
         tally: left,
         awaits: r.locked,
@@ -208,8 +208,8 @@ fn lead_in(f: Feeder, piece: &[u8], area: &mut [u8]) -> Relocked
     };
     Relocked {
         refusal: 0,
-        taken: answer.taken,
-        complete: answer.complete,
+        taken: last.taken,
+        complete: last.complete,
         more: false,
         feeder: next,
     }

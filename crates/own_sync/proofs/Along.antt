@@ -2,7 +2,7 @@
 -- met. A call as far as a lock is its bytes. Assumes nothing.
 use mathlib.Core.Path.{_≡_, refl, sym, ap, ap₂, _∙_}
 use mathlib.Core.Bool.{Bool, true, false, _&&_, _||_, not, true≢false, and-true, and-false, and-assoc, or-false}
-use mathlib.Core.List.{List, [], _∷_, _++_, map, append-assoc, append-nil}
+use mathlib.Core.List.{List, [], _∷_, _++_, append-assoc, append-nil}
 use mathlib.Core.Option.{Option, none, some}
 use Prim.Native.Nat.{ℕ, _+_, _≤_}
 use native.Mathlib.Numerals.{add-one}
@@ -11,20 +11,21 @@ use lib.ListN.{length, take, length-append}
 use Rattle.base.specs.Lists.{one}
 use Rattle.labelling.specs.declared.Word.{Word}
 use Rattle.labelling.specs.Words.{Vote, words}
-use Rattle.labelling.specs.MinorFrames.{pieces, frames}
+use Rattle.labelling.specs.MinorFrames.{frames}
 use Rattle.labelling.specs.MajorFrames.{majors}
 use Rattle.labelling.specs.Machine.{ByteEvent, afterByte, State, start, Now, wordStep, wordGiven, byteEvent, byteStep}
 use Rattle.labelling.specs.Calls.{Progress, andOne, feed}
 use Rattle.labelling.specs.Once.{framesIn, majorsIn, Pays}
 use Rattle.labelling.proofs.ByteLayer.{asList, words-step}
 use Rattle.labelling.proofs.FramingState.{framing-rest}
-use Rattle.labelling.proofs.Feeding.{feed-complete, feed-more, WholeInv, inv-start, Grown, inv-byte, FedRight, feed-right, Extent, feed-extent}
+use Rattle.labelling.proofs.Feeding.{feed-complete, feed-more, WholeInv, inv-start, Grown, inv-byte}
 use Rattle.own_sync.specs.Locks.{endsHunt, locks as lockCount, upTo}
 use Rattle.own_sync.specs.OwnCut.{endsBehind}
 use Rattle.own_sync.specs.Relocking.{openGroup, noWord}
-use Rattle.own_sync.proofs.Locks.{same-mode, locks-byte, stopsAt, up-stop, up-on}
+use Rattle.own_sync.proofs.Locks.{same-mode, locks-byte, up-stop, up-on}
 use Rattle.own_sync.proofs.OpenGroup.{given, ahead, none-ahead, Pending, pending-of, pending-words, pending-step}
-use Rattle.own_sync.proofs.Beside.{Stage, in-hunt, in-frame, at-lock, led-in, hunts, Settled, isAtLock, Decides, Beside, beside-start, hunts-now, Next, next-word}
+use Rattle.own_sync.proofs.Beside.{Stage, in-hunt, in-frame, at-lock, led-in, hunts, Settled, isAtLock, Decides, Beside, beside-start}
+use Rattle.own_sync.proofs.Beside.{hunts-now, Next, next-word}
 
 -- ---- what may come
 
@@ -304,7 +305,8 @@ module _ (vote : Vote) (a₀ : List ℕ) where
       at-a-lock led-in c d e = true≢false (sym e)
 
       go : (c : Bool) → m .complete ≡ c → (l : Bool) → o .lock ≡ l → (q : Bool) → noWord (comes t (b ∷ [])) ≡ q
-          → ((t : State) (a js bs : List ℕ) (s : Stage) (p : List Word) (n : ℕ) → Along t a js bs s p n → Ahead s (comes t piece) → FedPart piece t a js bs s n)
+          → ((t : State) (a js bs : List ℕ) (s : Stage) (p : List Word) (n : ℕ) → Along t a js bs s p n → Ahead s (comes t piece)
+          → FedPart piece t a js bs s n)
           → FedPart (b ∷ piece) t a js bs s n
       go true e l z true q ih = absurd (true≢false (sym e ∙ o .without-word q .1))
       go true e true l false q ih =

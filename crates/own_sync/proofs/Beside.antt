@@ -13,14 +13,14 @@ use Rattle.base.proofs.Lists.{concatMap-append, sumBy-append}
 use Rattle.labelling.specs.declared.FrameClass.{FrameClass}
 use Rattle.labelling.specs.declared.FrameClass.the-variants.{Good, Damaged, Unsynced}
 use Rattle.labelling.specs.declared.Word.{Word}
-use Rattle.labelling.specs.declared.Word.the-variants.{Voted}
-use Rattle.labelling.specs.MinorFrames.{isWord, frameClass, sameClass, Mode, hunting, placing, modeAfter, Piece, hunted, frame, part, pieces, frameOf, frames}
+use Rattle.labelling.specs.MinorFrames.{isWord, frameClass, sameClass, Mode, hunting, placing, modeAfter, Piece, hunted, frame, part, pieces, frameOf}
+use Rattle.labelling.specs.MinorFrames.{frames}
 use Rattle.labelling.specs.Rest.{latest, huntsAfter}
 use Rattle.labelling.proofs.Residual.{Residual, residual-start, residual-cut, residual-now, sumBy-now, concatMap-now}
 use Rattle.labelling.proofs.Latest.{latest-map}
 use Rattle.labelling.proofs.IfAny.{ifAny, sumBy-ifAny, concatMap-ifAny, latest-ifAny}
 use Rattle.labelling.proofs.Pieces.{cuts, hunt-ends, frame-closes, hunt-open, frame-open}
-use Rattle.own_sync.specs.OwnCut.{beforeSync, endsBehind, OwnMode, seeks, places, finds, ownMode, Own, ownFrames, ownFound}
+use Rattle.own_sync.specs.OwnCut.{beforeSync, OwnMode, seeks, places, finds, ownMode, Own, ownFrames, ownFound}
 use Rattle.own_sync.proofs.OwnCuts.{owns, framesHeld, own-frames, foundIn, own-found, beginning, asOwn, own-frame-closes, own-frame-open, sync}
 use Rattle.own_sync.proofs.OwnCuts.{own-hunt-open, own-hunt-behind, own-hunt-before}
 use Rattle.own_sync.proofs.OwnHunt.{Found, Sought, still, now, sought, hunts-all, still-hunts, hunt-ended}

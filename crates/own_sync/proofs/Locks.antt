@@ -16,7 +16,7 @@ use Rattle.labelling.specs.declared.Word.{Word}
 use Rattle.labelling.specs.Words.{Vote}
 use Rattle.labelling.specs.Votes.{ruleVote}
 use Rattle.labelling.specs.MinorFrames.{isWord}
-use Rattle.labelling.specs.Machine.{ByteEvent, afterByte, WordEvent, hunts, locks, fills, closes-frame, syncWord, syncedBytes, bytesClass, filled, marked}
+use Rattle.labelling.specs.Machine.{ByteEvent, afterByte, hunts, locks, fills, closes-frame, syncWord, syncedBytes, bytesClass, filled, marked}
 use Rattle.labelling.specs.Machine.{wordEvent, afterWord, State, stateOf, Now, wordStep, wordGiven, byteEvent, byteStep}
 use Rattle.labelling.specs.Calls.{TakeCall, takeRefusal}
 use Rattle.labelling.proofs.CallLaws.{no-refusal, passed}

@@ -11,7 +11,8 @@ use Rattle.base.proofs.Lists.{concatMap-append}
 use Rattle.labelling.specs.declared.Groups.{Groups}
 use Rattle.labelling.specs.declared.Word.{Word}
 use Rattle.labelling.specs.declared.Word.the-variants.{Voted, Erased}
-use Rattle.labelling.specs.Words.{Outside, opening, filling, straying, outside, Group, fill, stray, closed, opened, groups, bytesOf, Vote, wordOf, words, weakCopy}
+use Rattle.labelling.specs.Words.{Outside, opening, filling, straying, outside, Group, fill, stray, closed, opened, groups, bytesOf, Vote, wordOf}
+use Rattle.labelling.specs.Words.{words, weakCopy}
 use Rattle.labelling.specs.Machine.{ByteEvent, outer, closes, afterByte, wordGiven, byteEvent}
 use Rattle.labelling.proofs.ByteLayer.{asList, GroupsInv, groups-whole}
 use Rattle.own_sync.specs.Relocking.{openGroup}
@@ -59,7 +60,8 @@ module _ (vote : Vote) where
     given = byte-more (g .«open») g b few .gives
 
     -- the words ahead are the word given, if any, and those ahead of it
-    pub ahead : (ys : List ℕ) → words vote (openGroup g ++ b ∷ ys) ≡ asList (wordGiven (byteEvent vote (g .«open») g b)) ++ words vote (openGroup next ++ ys)
+    pub ahead : (ys : List ℕ)
+        → words vote (openGroup g ++ b ∷ ys) ≡ asList (wordGiven (byteEvent vote (g .«open») g b)) ++ words vote (openGroup next ++ ys)
     ahead ys = rw (← given) (byte-more (g .«open») g b few .goes-on ys)
 
   pub none-ahead : (g : Groups) → g .«open» ≤ 3 → words vote (openGroup g ++ []) ≡ []

@@ -10,14 +10,14 @@ use lib.ListN.{length, take, drop, length-append, length-drop, take-append-drop,
 use lib.Seq.{take-append-seam, drop-append-seam, take-at, drop-at, take-all}
 use borrow.Author.Tests.{le-leb, lt-leb, leb-true}
 use Rattle.base.specs.Lists.{concatMap, countBy, one}
-use Rattle.labelling.specs.declared.FrameClass.{FrameClass}
 use Rattle.labelling.specs.declared.Word.{Word}
-use Rattle.labelling.specs.declared.Word.the-variants.{Voted, Erased}
+use Rattle.labelling.specs.declared.Word.the-variants.{Voted}
 use Rattle.labelling.specs.Cutting.{CutOff}
-use Rattle.labelling.specs.MinorFrames.{isWord, synced, frameClass, Mode, hunting, placing, modeAfter, Piece, hunted, frame, part, framePiece, wordsOf, frameOf}
+use Rattle.labelling.specs.MinorFrames.{frameClass, modeAfter, Piece, hunted, frame, part, framePiece, wordsOf, frameOf}
 use Rattle.labelling.proofs.Cutting.{cutsBy, cuts-first, by-cuts, laid-out}
 use Rattle.labelling.proofs.IfAny.{ifAny}
-use Rattle.own_sync.specs.OwnCut.{beforeSync, endsBehind, OwnMode, seeks, places, finds, ownMode, Own, ownFrame, huntPiece, ownPiece, ownCut, ownPieces}
+use Rattle.own_sync.specs.OwnCut.{beforeSync, endsBehind, OwnMode, seeks, places, finds, ownMode, Own, ownFrame, huntPiece, ownPiece, ownCut}
+use Rattle.own_sync.specs.OwnCut.{ownPieces}
 use Rattle.own_sync.specs.OwnCut.{ownFrames, ownFound}
 
 -- ---- the cut

@@ -2,8 +2,8 @@
 -- the cut is in a hunt, behind FA F3 20, or in a frame; in the last case at most two frames are cut wrong before a hunt, which finds the next.
 -- Assumes nothing.
 use mathlib.Core.Path.{_≡_, refl, sym, ap, _∙_}
-use mathlib.Core.Bool.{Bool, true, false, cond, _&&_, true≢false}
-use mathlib.Core.List.{List, [], _∷_, _++_, map, append-assoc, append-nil}
+use mathlib.Core.Bool.{Bool, true, false, cond, _&&_}
+use mathlib.Core.List.{List, [], _∷_, _++_, append-assoc, append-nil}
 use Prim.Native.Nat.{ℕ, zero, suc, _+_, _-_, _≤_, _<_}
 use native.Mathlib.Omega.{arith}
 use lib.Dec.{eqb, ltb}
@@ -14,14 +14,14 @@ use Rattle.base.proofs.Lists.{concatMap-append, sumBy-append}
 use Rattle.labelling.specs.declared.FrameClass.{FrameClass}
 use Rattle.labelling.specs.declared.FrameClass.the-variants.{Good, Damaged, Unsynced}
 use Rattle.labelling.specs.declared.Word.{Word}
-use Rattle.labelling.specs.declared.Word.the-variants.{Voted, Erased}
-use Rattle.labelling.specs.MinorFrames.{isWord, synced, anyErased, frameClass, sameClass, placing, modeAfter, frame, part, hunted, frameOf}
-use Rattle.labelling.specs.MajorFrames.{isGood, number, numbered, runLength, majors, Run, major}
+use Rattle.labelling.specs.MinorFrames.{isWord, synced, anyErased, frameClass, sameClass, modeAfter, part, hunted, frameOf}
+use Rattle.labelling.specs.MajorFrames.{isGood, number, numbered, runLength, majors, major}
 use Rattle.labelling.proofs.IfAny.{ifAny, concatMap-ifAny, sumBy-ifAny}
 use Rattle.labelling.proofs.RunCuts.{Chain, Cuts, cuts-both, cuts-major}
 use Rattle.own_sync.specs.OwnCut.{beforeSync, endsBehind, OwnMode, seeks, places, finds, ownMode, Own, ownFrames, ownFound}
 use Rattle.own_sync.specs.Recovery.{WholeFrom, AllWhole, wordsIn, Conforms, AllConform, PlainAfterSync}
-use Rattle.own_sync.proofs.OwnCuts.{owns, framesHeld, own-frames, foundIn, own-found, beginning, asOwn, own-frame-closes, own-frame-open, sync, own-hunt-behind, own-hunt-before}
+use Rattle.own_sync.proofs.OwnCuts.{owns, framesHeld, own-frames, foundIn, own-found, beginning, asOwn, own-frame-closes, own-frame-open, sync}
+use Rattle.own_sync.proofs.OwnCuts.{own-hunt-behind, own-hunt-before}
 use Rattle.own_sync.proofs.Beside.{Stage, in-hunt, in-frame, at-lock, led-in, ownModeAt, Kept, Settled, Reached, reached}
 use Rattle.own_sync.proofs.OwnHunt.{one-short, is-sync, before-none, before-more, Found}
 
@@ -78,13 +78,15 @@ laid {m′ = m′} {ys = ys} os e = record {
 }
 
 -- a frame of any class
-any-frame : (found : Bool) (f ys : List Word) → length f ≡ 128 → LaidOut (beginning found) (f ++ ys) (f ∷ []) (one found) (ownMode (modeAfter (frameClass f))) ys
+any-frame : (found : Bool) (f ys : List Word) → length f ≡ 128
+    → LaidOut (beginning found) (f ++ ys) (f ∷ []) (one found) (ownMode (modeAfter (frameClass f))) ys
 any-frame found f ys l = record {
   frames-are = ap framesHeld (own-frame-closes found f ys l);
   found-are = ap foundIn (own-frame-closes found f ys l);
 }
 
-good-frame : (n : ℕ) (found : Bool) (f ys : List Word) → length f ≡ 128 → numbered n f ≡ true → LaidOut (beginning found) (f ++ ys) (f ∷ []) (one found) places ys
+good-frame : (n : ℕ) (found : Bool) (f ys : List Word) → length f ≡ 128 → numbered n f ≡ true
+    → LaidOut (beginning found) (f ++ ys) (f ∷ []) (one found) places ys
 good-frame n found f ys l e = rw (numbered-good n f e) at (any-frame found f ys l)
 
 -- whole frames, cut where they lie
@@ -126,21 +128,24 @@ clear-then-sync (x ∷ y ∷ []) ys e =
     none false b = refl
 clear-then-sync (x ∷ y ∷ z ∷ q) ys e = go (synced (x ∷ y ∷ z ∷ q)) refl (clear-then-sync (y ∷ z ∷ q) ys)
   where
-    go : (b : Bool) → synced (x ∷ y ∷ z ∷ q) ≡ b → (beforeSync (y ∷ z ∷ q) ≡ length (y ∷ z ∷ q) → beforeSync ((y ∷ z ∷ q ++ sync) ++ ys) ≡ length (y ∷ z ∷ q))
+    go : (b : Bool) → synced (x ∷ y ∷ z ∷ q) ≡ b
+        → (beforeSync (y ∷ z ∷ q) ≡ length (y ∷ z ∷ q) → beforeSync ((y ∷ z ∷ q ++ sync) ++ ys) ≡ length (y ∷ z ∷ q))
         → beforeSync ((x ∷ y ∷ z ∷ q ++ sync) ++ ys) ≡ length (x ∷ y ∷ z ∷ q)
     go true s ih = absurd (omega (arith, before-none x (y ∷ z ∷ q) s))
     go false s ih =
         omega (arith, before-more x ((y ∷ z ∷ q ++ sync) ++ ys) s, ih (omega (arith, before-more x (y ∷ z ∷ q) s)))
 
 -- the hunt ends before a frame with its sync, if its word 3 is not FA
-hunt-finds : (q f ys : List Word) → beforeSync q ≡ length q → length f ≡ 128 → synced f ≡ true → PlainAfterSync f → LaidOut seeks (q ++ (f ++ ys)) [] 0 finds (f ++ ys)
+hunt-finds : (q f ys : List Word) → beforeSync q ≡ length q → length f ≡ 128 → synced f ≡ true → PlainAfterSync f
+    → LaidOut seeks (q ++ (f ++ ys)) [] 0 finds (f ++ ys)
 hunt-finds q f ys e l s plain = go (begins f l s)
   where
     next : (rest : List Word) → length (sync ++ rest) ≡ 128 → PlainAfterSync (sync ++ rest) → endsBehind (rest ++ ys) ≡ false
     next [] l h = absurd (omega arith)
     next (w ∷ rest) l h = h
 
-    none : (r : List Word) → LaidOut seeks (q ++ r) (framesHeld (ifAny (λ l. asOwn false (hunted l)) q)) (foundIn (ifAny (λ l. asOwn false (hunted l)) q)) finds r
+    none : (r : List Word)
+        → LaidOut seeks (q ++ r) (framesHeld (ifAny (λ l. asOwn false (hunted l)) q)) (foundIn (ifAny (λ l. asOwn false (hunted l)) q)) finds r
         → LaidOut seeks (q ++ r) [] 0 finds r
     none r x =
         rw (
@@ -172,7 +177,8 @@ hunt-behind p f ys d l s = go (begins f l s)
 -- ---- a whole major frame at the head
 
 -- cut as it is, its first frame found by a hunt or not
-major-cut : (found : Bool) (m : List (List Word)) (ys : List Word) → 0 < length m → WholeFrom 0 m → LaidOut (beginning found) (concatMap (λ f. f) m ++ ys) m (one found) places ys
+major-cut : (found : Bool) (m : List (List Word)) (ys : List Word) → 0 < length m → WholeFrom 0 m
+    → LaidOut (beginning found) (concatMap (λ f. f) m ++ ys) m (one found) places ys
 major-cut found [] ys h w = absurd (omega arith)
 major-cut found (f ∷ fs) ys h w =
     let x = then (good-frame 0 found f (concatMap (λ (f : List Word). f) fs ++ ys) (w .0) (w .1)) (good-frames 1 fs ys (w .2)) in
@@ -200,7 +206,9 @@ module _ (m : List (List Word)) (ms : List (List (List Word))) (tail : List Word
 
   -- from the second major frame on
   rest-cut : LaidOut places on (concatMap (λ m. m) ms) 0 places []
-  rest-cut = let x = then (good-majors ms tail (w .2)) (open-end tail h) in record { frames-are = rw append-nil at (x .frames-are); found-are = x .found-are }
+  rest-cut =
+      let x = then (good-majors ms tail (w .2)) (open-end tail h) in
+      record { frames-are = rw append-nil at (x .frames-are); found-are = x .found-are }
 
   -- and with the first, found or not
   whole-cut : (found : Bool) → LaidOut (beginning found) (wordsIn (m ∷ ms) ++ tail) (concatMap (λ m. m) (m ∷ ms)) (one found) places []
@@ -336,7 +344,9 @@ not-synced [] f k some e l s h = absurd (omega arith)
 not-synced (x ∷ v) f k some e l s h = go (begins f l s) (synced (x ∷ v ++ take k f)) refl
   where
     whole : synced (x ∷ v ++ take k f) ≡ synced (x ∷ (v ++ f))
-    whole = sym (synced-more (x ∷ v ++ take k f) (drop k f) h) ∙ ap synced (append-assoc (x ∷ v) (take k f) (drop k f) ∙ ap (λ (r : List Word). x ∷ v ++ r) (take-append-drop k f))
+    whole =
+        sym (synced-more (x ∷ v ++ take k f) (drop k f) h)
+        ∙ ap synced (append-assoc (x ∷ v) (take k f) (drop k f) ∙ ap (λ (r : List Word). x ∷ v ++ r) (take-append-drop k f))
 
     go : Begins f → (b : Bool) → synced (x ∷ v ++ take k f) ≡ b → b ≡ false
     go b false z = refl
@@ -411,7 +421,8 @@ module _ (ys : List Word) where
 
         first : Comes (beginning found) (p ++ joinedFrames (f₀ ∷ f₁ ∷ f₂ ∷ fs)) (ownMode (modeAfter (frameClass (p ++ take k f₀)))) (v₀ ++ rest)
         first =
-            rw (append-assoc f₀ (concatMap (λ (f : List Word). f) (f₁ ∷ f₂ ∷ fs)) ys, shifted k p f₀ rest) (comes (any-frame found (p ++ take k f₀) (v₀ ++ rest) full))
+            rw (append-assoc f₀ (concatMap (λ (f : List Word). f) (f₁ ∷ f₂ ∷ fs)) ys, shifted k p f₀ rest)
+            (comes (any-frame found (p ++ take k f₀) (v₀ ++ rest) full))
 
         by-class : (c : FrameClass) → frameClass (p ++ take k f₀) ≡ c → Comes (beginning found) (p ++ joinedFrames (f₀ ∷ f₁ ∷ f₂ ∷ fs)) places ys
         by-class Good e = comes-on (rw e at first) second
@@ -454,7 +465,8 @@ module _ (m : List (List Word)) (ms : List (List (List Word))) (tail : List Word
 
     to-the-second : Comes seeks damaged places (wordsIn ms ++ tail)
     to-the-second =
-        let upto : LaidOut seeks damaged (framesHeld (r .beside .own)) (foundIn (r .beside .own)) (ownModeAt (r .stage)) (r .rest ++ (wordsIn (m ∷ ms) ++ tail)) =
+        let upto : LaidOut seeks damaged (framesHeld (r .beside .own)) (foundIn (r .beside .own)) (ownModeAt (r .stage))
+        (r .rest ++ (wordsIn (m ∷ ms) ++ tail)) =
         laid (r .beside .own) (r .beside .own-cut .goes-on (wordsIn (m ∷ ms) ++ tail)) in
         comes-on (comes upto) (damage-cut (r .stage) (r .rest) (r .settled) (r .beside .kept))
 

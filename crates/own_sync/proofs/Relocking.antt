@@ -1,27 +1,26 @@
 -- The claim about every list of calls that locks on a frame's own sync: the two lists of words go side by side through its calls, a refused one changes
 -- nothing, and one that names an operator nothing of the state. Assumes nothing.
 use mathlib.Core.Path.{_≡_, refl, sym, ap, ap₂, _∙_}
-use mathlib.Core.Bool.{Bool, true, false, _&&_, _||_, true≢false, or-false}
+use mathlib.Core.Bool.{Bool, true, false, _||_, true≢false, or-false}
 use mathlib.Core.List.{List, [], _∷_, _++_, append-assoc, append-nil, map-append}
-use Prim.Native.Nat.{ℕ, zero, suc, _+_, _*_, _≤_, _<_}
+use Prim.Native.Nat.{ℕ, suc, _+_, _*_, _<_}
 use native.Mathlib.Nat.{add-zero, zero-add, add-suc, suc-add}
 use native.Mathlib.Omega.{arith}
 use lib.Dec.{ltb}
 use lib.ListN.{length, take, length-append}
 use lib.Seq.{take-all, length-take-le}
 use borrow.Author.Tests.{lt-ltb, le-ltb}
-use Rattle.base.specs.Format.{SYNC}
-use Rattle.base.specs.Lists.{concatMap, one}
+use Rattle.base.specs.Lists.{concatMap, sumBy, one}
+use Rattle.labelling.specs.declared.FrameClass.the-variants.{Good, Damaged, Unsynced}
 use Rattle.labelling.specs.declared.Tally.{Tally}
 use Rattle.labelling.specs.declared.Word.{Word}
-use Rattle.labelling.specs.declared.Word.the-variants.{Voted}
 use Rattle.labelling.specs.Words.{outside, Vote, words}
-use Rattle.labelling.specs.Votes.{ruleVote, Unanimous}
-use Rattle.labelling.specs.MinorFrames.{isWord, frames}
-use Rattle.labelling.specs.MajorFrames.{values, majors}
-use Rattle.labelling.specs.Machine.{State, stateOf, fresh, start}
+use Rattle.labelling.specs.Votes.{ruleVote}
+use Rattle.labelling.specs.MinorFrames.{frames, classed}
+use Rattle.labelling.specs.MajorFrames.{values, majors, runs, inBroken, inLoose, inBuilding, stored, putFrames}
+use Rattle.labelling.specs.Machine.{stateOf, fresh}
 use Rattle.labelling.specs.Order.{isRule}
-use Rattle.labelling.specs.Calls.{TakeCall, takeRefusal, Answer, Progress, progressOf, feed, answer, taken, DutyCall, dutyRefusal, dutyAnswer}
+use Rattle.labelling.specs.Calls.{TakeCall, takeRefusal, Answer, progressOf, answer, taken, DutyCall, dutyRefusal, dutyAnswer}
 use Rattle.labelling.specs.Calls.{Call, takes, changes, refusalOf, joined, paid, Handed}
 use Rattle.labelling.specs.Calls as calls
 use Rattle.labelling.specs.Once.{framesIn, majorsIn, Once}
@@ -29,18 +28,18 @@ use Rattle.labelling.proofs.Votes.{unanimous}
 use Rattle.labelling.proofs.Feeding.{WholeInv, FedRight, feed-right}
 use Rattle.labelling.proofs.CallLaws.{refused-taken, accepted-under, accepted-extent, accepted-rule, duty-accepted, duty-rule}
 use Rattle.labelling.proofs.Demand.{once}
-use Rattle.own_sync.specs.Locks.{locks as lockCount, toLock}
+use Rattle.own_sync.specs.Locks.{toLock}
 use Rattle.own_sync.specs.OwnCut.{endsBehind, ownFrames, ownFound}
 use Rattle.own_sync.specs.Recovery.{bytesIn}
-use Rattle.own_sync.specs.Relocking.{openGroup, wordsNext, noWord, locked, awaitsAfter, leadInBytes, leadIn, afterLeadIn, OtherWord, other-word}
+use Rattle.own_sync.specs.Relocking.{openGroup, wordsNext, locked, awaitsAfter, leadInBytes, leadIn, afterLeadIn, OtherWord, other-word}
 use Rattle.own_sync.specs.Relocking.{Relocked, done, refused, changed, takes-on, leads-in}
 use Rattle.own_sync.specs.OwnOnce.{OwnOnce}
 use Rattle.own_sync.proofs.Locks.{part-accepted}
 use Rattle.own_sync.proofs.OwnCuts.{sync, own-each-word}
-use Rattle.own_sync.proofs.OpenGroup.{Pending, pending-of, four-each}
-use Rattle.own_sync.proofs.Beside.{Stage, in-hunt, in-frame, at-lock, led-in, Settled, isAtLock, Beside, same-frames, found-now, led, few-close-none}
+use Rattle.own_sync.proofs.OpenGroup.{pending-of, four-each}
+use Rattle.own_sync.proofs.Beside.{Stage, in-hunt, in-frame, at-lock, led-in, Settled, isAtLock, same-frames, found-now, led, few-close-none}
 use Rattle.own_sync.proofs.Recovery.{led-majors, led-found, begun-majors, begun-found, damaged-majors}
-use Rattle.own_sync.proofs.Along.{Ahead, Along, along-start, comes, none-complete, Part, fed-part}
+use Rattle.own_sync.proofs.Along.{Ahead, Along, along-start, none-complete, Part, fed-part}
 
 -- they are calls of demand 3's lists
 pub relocked-handed : {w w′ : Bool} {t t′ : Tally} {a a′ bs : List ℕ} {cs : List Call} {n : ℕ} → Relocked w t a bs cs w′ t′ a′ n → Handed t a cs t′ a′
@@ -131,8 +130,8 @@ module _ (rule : ℕ) (a₀ : List ℕ) where
   unfolding words outside
   lead-words-alone = let u = unanimous rule in rw (u .all-three 0xfa, u .all-three 0xf3, u .all-three 0x20)
 
-  module _ (c : TakeCall) (e : takeRefusal (leadIn c) ≡ 0) (q : c .tally .rule ≡ rule) (z : c .tally .groups .«open» ≡ 0) {js bs : List ℕ} {p : List Word} {n : ℕ}
-      (i : Along vote a₀ (stateOf (c .tally)) (c .area) js bs at-lock p n) where
+  module _ (c : TakeCall) (e : takeRefusal (leadIn c) ≡ 0) (q : c .tally .rule ≡ rule) (z : c .tally .groups .«open» ≡ 0)
+      {js bs : List ℕ} {p : List Word} {n : ℕ} (i : Along vote a₀ (stateOf (c .tally)) (c .area) js bs at-lock p n) where
     abbrev l : Answer
     l = answer (leadIn c)
 
@@ -233,7 +232,8 @@ module _ (rule : ℕ) (a₀ : List ℕ) where
   unfolding joined
   took-changed d r = record { stands = r .stands; length-is = r .length-is }
 
-  stands-changed : {w : Bool} {a js xs : List ℕ} {m : ℕ} (d : DutyCall) → dutyRefusal d ≡ 0 → Stands w (d .tally) a js xs m → Stands w (dutyAnswer d) a js xs m
+  stands-changed : {w : Bool} {a js xs : List ℕ} {m : ℕ} (d : DutyCall) → dutyRefusal d ≡ 0 → Stands w (d .tally) a js xs m
+      → Stands w (dutyAnswer d) a js xs m
   stands-changed d e i = record {
     rule-is = duty-rule d e ∙ i .rule-is;
     stage = i .stage;
@@ -318,6 +318,16 @@ module _ (rule : ℕ) (a₀ : List ℕ) where
     each-word = own-each-word (words vote bs);
     frames-are = same;
     paid-is = paid-now;
+    counts = record {
+      good-is = all .counts .good-is ∙ ap (classed Good) same;
+      damaged-is = all .counts .damaged-is ∙ ap (classed Damaged) same;
+      unsynced-is = all .counts .unsynced-is ∙ ap (classed Unsynced) same;
+      majors-is = all .counts .majors-is ∙ ap (λ (fs : List (List Word)). length (majors fs)) same;
+      broken-is = all .counts .broken-is ∙ ap (λ (fs : List (List Word)). sumBy inBroken (runs fs)) same;
+      loose-is = all .counts .loose-is ∙ ap (λ (fs : List (List Word)). sumBy inLoose (runs fs)) same;
+      building-is = all .counts .building-is ∙ ap (λ (fs : List (List Word)). sumBy inBuilding (runs fs)) same;
+      area-is = all .area-is ∙ ap (λ (fs : List (List Word)). putFrames a₀ (concatMap stored (runs fs))) same;
+    };
     lead-ins-are = found;
     bytes-are = all .counts .bytes-is ∙ r .length-is;
     unled = unled;
@@ -326,7 +336,8 @@ module _ (rule : ℕ) (a₀ : List ℕ) where
           let none : n ≡ 0 = found ∙ ap ownFound e ∙ led-found m ms tail v few in
           (none, unled none, paid-now ∙ ap paidFrames e ∙ ap bytesIn (led-majors m ms tail v few));
       begun-anywhere = λ q m ms tail e clear v plain few.
-          (found ∙ ap ownFound e ∙ begun-found m ms tail v few q clear plain, paid-now ∙ ap paidFrames e ∙ ap bytesIn (begun-majors m ms tail v few q clear plain));
+          let one : n ≡ 1 = found ∙ ap ownFound e ∙ begun-found m ms tail v few q clear plain in
+          (one, paid-now ∙ ap paidFrames e ∙ ap bytesIn (begun-majors m ms tail v few q clear plain));
       after-damage = λ d m ms tail e v conform few.
           let x = damaged-majors m ms tail v conform few d in
           (bytesIn (x .0), paid-now ∙ ap paidFrames e ∙ ap bytesIn (x .1) ∙ map-append (concatMap values) (x .0) ms);

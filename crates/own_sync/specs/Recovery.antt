@@ -61,7 +61,8 @@ pub record Recovers (vote : Vote) (bs : List ℕ) (cs : List Call) (n : ℕ) : T
       → (n ≡ 0) × (joined cs ≡ bs) × (paid cs ≡ bytesIn (m ∷ ms))
   -- whole major frames, begun at any word q of a frame before them, in whose part FA F3 20 stands nowhere: these are paid, and nothing else
   pub begun-anywhere : (q : List Word) (m : List (List Word)) (ms : List (List (List Word))) (tail : List Word)
-      → words vote bs ≡ q ++ (wordsIn (m ∷ ms) ++ tail) → beforeSync q ≡ length q → AllWhole (m ∷ ms) → PlainAfterSync (getD m 0 []) → length tail < minorFrame
+      → words vote bs ≡ q ++ (wordsIn (m ∷ ms) ++ tail) → beforeSync q ≡ length q → AllWhole (m ∷ ms) → PlainAfterSync (getD m 0 [])
+      → length tail < minorFrame
       → (n ≡ 1) × (paid cs ≡ bytesIn (m ∷ ms))
   -- after any words d at all, whatever was lost or falsified in them: of the whole major frames that follow, all but the first are paid, in order
   pub after-damage : (d : List Word) (m : List (List Word)) (ms : List (List (List Word))) (tail : List Word)

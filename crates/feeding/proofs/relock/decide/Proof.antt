@@ -1,12 +1,6 @@
 -- `feeding::relock::decide` meets its contract: each of its ways is a move. Assumes nothing.
-use mathlib.Core.Path.{_≡_, sym, _∙_}
-use mathlib.Core.Bool.{true, false}
-use Prim.Native.Nat.{_≤_, _<_}
+use mathlib.Core.Path.{sym, _∙_}
 use native.Mathlib.Omega.{arith}
-use lib.ListN.{length}
-use denote.Ref.{now}
-use Rattle.labelling.specs.Votes.{ruleVote}
-use Rattle.feeding.specs.Relock.{givesFirst}
 use Rattle.feeding.proofs.Moves.{reads-part, asks-again, reads-frame, leads-other}
 use borrow.Author.Needs.{needs}
 use Rattle.feeding.proofs.relock.decide.Statement.{statement}

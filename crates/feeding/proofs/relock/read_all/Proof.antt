@@ -1,5 +1,5 @@
 -- `feeding::relock::read_all` meets its contract: the stream is read as far as the place reached, and the next step goes on there. Assumes nothing.
-use mathlib.Core.Path.{_≡_, refl, _∙_, subst}
+use mathlib.Core.Path.{refl, subst}
 use mathlib.Core.Bool.{true}
 use mathlib.Core.List.{List}
 use Prim.Native.Nat.{ℕ, _+_, _-_, _≤_, _<_}
@@ -93,7 +93,8 @@ loop-again c =
     let stepped = c .before in
     let w = stepped .before .before .before .before in
     let i = at-turn w .loop .inv in
-    (i .0, reads-more _ _ _ _ _ _ (i .1) (turn w .loop-test .taken) (w .relock .result) _ (promised w) (c .number .result) (c .number .ensures) (w .relock .kept .1 .1 .1 .0))
+    let same = w .relock .kept .1 .1 .1 .0 in
+    (i .0, reads-more _ _ _ _ _ _ (i .1) (turn w .loop-test .taken) (w .relock .result) _ (promised w) (c .number .result) (c .number .ensures) same)
 
 same-length : tie.Need-same-length Inv-loop μ-loop
 same-length c = c .before .loop .inv .1 .kept

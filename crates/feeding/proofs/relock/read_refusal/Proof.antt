@@ -1,8 +1,5 @@
 -- `feeding::relock::read_refusal` meets its contract: its tests are the definition's, in that order. Assumes nothing.
-use mathlib.Core.Path.{_≡_, _∙_, ap, sym}
-use Prim.Native.Nat.{ℕ}
 use native.Mathlib.Omega.{arith}
-use Rattle.feeding.specs.Relock.{refusalAfter}
 use Rattle.feeding.proofs.ReadingReels.{refused-rule, refused-area, refused-length, not-refused}
 use Rattle.feeding.proofs.relock.read_refusal.Statement.{statement}
 use Rattle.feeding.proofs.relock.read_refusal.Tie as tie

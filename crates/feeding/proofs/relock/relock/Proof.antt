@@ -1,14 +1,12 @@
 -- `feeding::relock::relock` meets its contract: refused, or by its move one of the calls below. Assumes nothing.
-use mathlib.Core.Path.{_≡_, sym, ap, _∙_}
-use mathlib.Core.Bool.{true, false}
-use mathlib.Core.List.{List}
-use Prim.Native.Nat.{ℕ, _≤_, _<_}
+use mathlib.Core.Path.{_≡_, sym, _∙_}
+use mathlib.Core.Bool.{true}
 use native.Mathlib.Omega.{arith}
 use lib.ListN.{length, take}
 use lib.Seq.{length-take-le}
 use denote.Ref.{now}
 use borrow.Author.Tests.{not-true, not-false}
-use Rattle.feeding.specs.Relock.{relockRefusal, beforeGroup, ReadsOn}
+use Rattle.feeding.specs.Relock.{relockRefusal}
 use Rattle.feeding.proofs.Relocking.{step-refused, accepts-part}
 use Rattle.feeding.proofs.Moves.{reads-all, reads-before}
 use borrow.Author.Needs.{needs}
@@ -25,7 +23,8 @@ returns : tie.Need-returns
 returns c =
     let w = c .before .before in
     let s = w .before .before .before in
-    rw (c .refused .ensures) (step-refused (s .args .f) (now (s .args .piece)) (s .args .ends) (now (s .args .area)) (w .refusal .result) (w .refusal .ensures) (c .before .if1 .taken))
+    rw (c .refused .ensures)
+    (step-refused (s .args .f) (now (s .args .piece)) (s .args .ends) (now (s .args .area)) (w .refusal .result) (w .refusal .ensures) (c .before .if1 .taken))
 
 -- past the first test
 module _ (w : tie.Else1) where
@@ -81,7 +80,8 @@ returns-3 c =
     let some = called .before .before .before in
     let v = some .before in
     let found = v .before-group .ensures in
-    reads-before _ _ _ _ (accepted (passed v)) (awaits v) (omega (arith, found .0, some .if3 .taken)) (omega (arith, found .0, found .1)) (called .read-on2 .result) _
+    reads-before _ _ _ _ (accepted (passed v)) (awaits v) (omega (arith, found .0, some .if3 .taken)) (omega (arith, found .0, found .1))
+    (called .read-on2 .result) _
     (rw (found .0) at (called .read-on2 .ensures))
 
 decide-requires : tie.Need-decide-requires
