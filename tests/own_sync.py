@@ -13,7 +13,7 @@ own_cut: `check` holds the one against the other."""
 from collections import namedtuple
 
 import labelling
-from labelling import FILL, MINORS, PLACES, SYNC, SYNC_WORDS, Cut, Frame, Stream
+from labelling import MINORS, PLACES, SYNC, SYNC_WORDS, Frame, Stream
 
 LEAD_IN = b"".join(bytes([SYNC, word, word, word]) for word in SYNC_WORDS)
 
@@ -69,7 +69,11 @@ def awaits(reel):
     """Whether the reel ends with a lock whose next word is still to come."""
     _, words = labelling.label_bytes(reel)
     cut = own_cut(words)
-    return cut.since is None and not cut.part and [word.value for word in words[-3:]] == SYNC_WORDS and (not cut.frames or cut.frames[-1].end < words[-1].end)
+    if cut.since is not None or cut.part:
+        return False
+    # Neither hunted nor placed: the last three words are a lock, or those of the last frame.
+    placed = cut.frames and cut.frames[-1].end == words[-1].end
+    return not placed and [word.value for word in words[-3:]] == SYNC_WORDS
 
 
 def majors(reel):

@@ -302,14 +302,16 @@ module _ {l : Layers} {frame p : List ℕ} {i : ℕ} (b : Begun p i (stateWith l
     place-onward s h r e =
         rw (e, s .frame-is)
         (plain-onward
-        (λ vote decides a. placed-plain (all-agree decides) {a = a} (s .stretch) t record { closed = closed; places = h; room = omega (arith, s .place-is, s .room r) }) refl refl b)
+        (λ vote decides a.
+        placed-plain (all-agree decides) {a = a} (s .stretch) t record { closed = closed; places = h; room = omega (arith, s .place-is, s .room r) }) refl refl b)
 
     pub hunt-onward : {j w x : ℕ} (s : Hunted p i j w x) {g : Groups} → l .framing .hunting ≡ true → l .framing .matched ≡ 0
         → g ≡ withWords (l .groups) (j - i) (s .words) → Reaches p i t j (stateWith (layersOf g (withHunted (l .framing) w) (l .runs)) frame)
     hunt-onward s h m e =
         rw (e, s .count-is)
         (plain-onward
-        (λ vote decides a. hunted-plain (all-agree decides) {a = a} (s .stretch) t record { closed = closed; hunts = h; unmatched = m; none-begins = s .none-begins }) refl refl b)
+        (λ vote decides a.
+        hunted-plain (all-agree decides) {a = a} (s .stretch) t record { closed = closed; hunts = h; unmatched = m; none-begins = s .none-begins }) refl refl b)
 
     pub quiet-onward : {j k : ℕ} {g : Groups} → Quiet p i j k → g ≡ withQuiet (l .groups) (j - i) k
         → Reaches p i t j (stateWith (layersOf g (l .framing) (l .runs)) frame)

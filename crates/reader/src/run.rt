@@ -80,7 +80,8 @@ pub(crate) fn run(
     area: &mut [u8],
 ) -> Ran
     requires { ⌜ Begun (now piece) 0 (stateWith l (now frame)) × (length (now area) ≡ majorFrame) ⌝ }
-    ensures { λ r. ⌜ ranOf r (now (frame .exit)) (now (area .exit)) ≡ fed (ruleVote rule) stop (now (piece .entry)) (from 0 l (now (frame .entry)) (now (area .entry))) ⌝ }
+    ensures { λ r. ⌜ ranOf r (now (frame .exit)) (now (area .exit))
+        ≡ fed (ruleVote rule) stop (now (piece .entry)) (from 0 l (now (frame .entry)) (now (area .entry))) ⌝ }
 {
     let mut next = l;
     let mut i: usize = 0;

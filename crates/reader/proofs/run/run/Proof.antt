@@ -57,7 +57,8 @@ returns c =
 
 loop-less : tie.Need-loop-less Inv-loop μ-loop
 loop-less c =
-    let x = c .before .before .before .before .before .advance in
+    let stopped = c .before in
+    let x = (stopped .before .before .before .before) .advance in
     omega (arith, x .ensures .moves, x .ensures .onward .within)
 
 loop-again : tie.Need-loop-again Inv-loop μ-loop
