@@ -1,5 +1,5 @@
 -- Voted stretches as parts of a call: their counts added at once, and where they lead. Assumes nothing.
-use mathlib.Core.Path.{_≡_, refl, sym, ap, _∙_}
+use mathlib.Core.Path.{_≡_, refl, sym, _∙_}
 use mathlib.Core.Bool.{true, false}
 use mathlib.Core.List.{List, [], _∷_}
 use Prim.Native.Nat.{ℕ, _+_, _*_, _-_, _≤_, _<_, _^_}
@@ -12,7 +12,7 @@ use Rattle.labelling.specs.declared.Weak.{Weak}
 use Rattle.nominal.specs.Effect.{withPlaced, withHunted}
 use Rattle.voted.specs.declared.hunting.Passed.{Passed}
 use Rattle.voted.specs.declared.placing.Filled.{Filled}
-use Rattle.voted.specs.Copies.{Copies, words, weakIn}
+use Rattle.voted.specs.Copies.{Copies, words}
 use Rattle.voted.specs.Stretches.{Placed, Hunted}
 use Rattle.voted.specs.Effect.{held, withVoted}
 use Rattle.voted.proofs.Agreeing.{weak-few}

@@ -1,7 +1,7 @@
 -- Which copies agree, added up over many groups, tells the weak copies. Assumes nothing.
 use mathlib.Core.Path.{_≡_, refl, sym, _∙_}
 use mathlib.Core.Bool.{Bool, true, false, cond, _&&_, _||_, true≢false}
-use mathlib.Core.List.{List, [], _∷_, _++_}
+use mathlib.Core.List.{List}
 use Prim.Native.Nat.{ℕ, _+_, _*_, _-_, _/_, _%_, _≤_, _<_}
 use native.Mathlib.Omega.{arith}
 use lib.Dec.{eqb}
@@ -14,7 +14,7 @@ use Rattle.labelling.specs.declared.Word.{Word}
 use Rattle.labelling.specs.declared.Word.the-variants.{Voted, Erased}
 use Rattle.labelling.specs.Words.{byteVote, weakCopy}
 use Rattle.labelling.specs.MajorFrames.{value}
-use Rattle.voted.specs.Copies.{Copies, IsVoted, weakOf, named, weakIn, sideBySide, agreement, agreements, Summed}
+use Rattle.voted.specs.Copies.{Copies, IsVoted, named, weakIn, sideBySide, agreement, agreements, Summed}
 use Rattle.voted.specs.Stretches.{Decided, ends, fill, group}
 
 -- ---- one group

@@ -1,6 +1,6 @@
 -- What a voted stretch does to a state is what plain steps do, a byte at a time, under any vote that two equal copies decide: both rules are such
 -- (02, request 6). Assumes nothing.
-use mathlib.Core.Path.{_≡_, refl, sym, _∙_}
+use mathlib.Core.Path.{_≡_, refl, _∙_}
 use mathlib.Core.Bool.{true, false, or-false}
 use mathlib.Core.List.{List, [], _∷_}
 use Prim.Native.Nat.{ℕ, suc, _+_, _*_, _-_, _≤_, _<_}

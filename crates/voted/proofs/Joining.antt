@@ -9,7 +9,7 @@ use lib.Seq.{sets}
 use Rattle.base.specs.Format.{SYNC, FILL, syncWord}
 use Rattle.quiet.specs.Quiet.{Byte}
 use Rattle.labelling.specs.declared.Weak.{Weak}
-use Rattle.nominal.specs.Stretches.{FourFill, Nominal, lastPlace, NoneBegins, none, other}
+use Rattle.nominal.specs.Stretches.{Nominal, lastPlace, NoneBegins, none, other}
 use Rattle.nominal.specs.Stretches as nominal
 use Rattle.nominal.proofs.Joining.{nominal-join, four-fill, one-fill}
 use Rattle.voted.specs.declared.hunting.Hunt.{Hunt}

@@ -1,7 +1,7 @@
 -- `voted::hunting::other_groups` meets its contract: the run so far goes on by one group with the FILL after it at each turn; it ends where there are too
 -- many groups, where no SYNC stands, where all copies differ, where the word is FA, or where no whole group is left. Assumes nothing.
-use mathlib.Core.Path.{_≡_, refl, sym, _∙_}
-use Prim.Native.Nat.{_+_, _*_, _-_, _≤_}
+use mathlib.Core.Path.{_≡_, sym, _∙_}
+use Prim.Native.Nat.{_-_}
 use native.Mathlib.Omega.{arith}
 use lib.ListN.{length}
 use Rattle.base.specs.Format.{SYNC, FILL, syncWord}

@@ -1,6 +1,6 @@
 -- `voted::placing::cells` meets its contract: the run so far is kept, and one more cell at each turn. The position and the place go up together, so
 -- that one bound serves for both. Assumes nothing.
-use mathlib.Core.Path.{_≡_, refl, sym, _∙_}
+use mathlib.Core.Path.{_≡_, refl, _∙_}
 use Prim.Native.Nat.{_+_, _*_, _-_, _≤_}
 use native.Mathlib.Omega.{arith}
 use borrow.Author.Tests.{not-false}
@@ -8,7 +8,6 @@ use Rattle.voted.specs.Copies.{copiesAt}
 use Rattle.voted.specs.Stretches.{RunsOn}
 use Rattle.voted.proofs.Agreeing.{agreement-few, voted-of}
 use Rattle.voted.proofs.Joining.{run, cell-fill, group-at, kept-group}
-use borrow.Author.Needs.{needs}
 use Rattle.voted.proofs.placing.cells.Statement.{statement}
 use Rattle.voted.proofs.placing.cells.Tie as tie
 

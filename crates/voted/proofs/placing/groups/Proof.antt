@@ -1,14 +1,14 @@
 -- `voted::placing::groups` meets its contract: the run so far is kept, and one more group with the FILL after it at each turn; it ends where the last
 -- place comes next, where no SYNC stands, where all copies differ, or where no whole group is left. Assumes nothing.
-use mathlib.Core.Path.{_≡_, refl, sym, _∙_}
-use Prim.Native.Nat.{_+_, _*_, _-_, _≤_}
+use mathlib.Core.Path.{sym, _∙_}
+use Prim.Native.Nat.{_-_}
 use native.Mathlib.Omega.{arith}
 use lib.ListN.{length}
 use Rattle.base.specs.Format.{SYNC, FILL}
 use Rattle.quiet.specs.Quiet.{Byte}
 use Rattle.nominal.proofs.Joining.{nominal-far, nominal-inside}
 use Rattle.voted.specs.Copies.{copiesAt}
-use Rattle.voted.specs.Stretches.{RunsOn, RunsOut, Stops}
+use Rattle.voted.specs.Stretches.{RunsOn}
 use Rattle.voted.proofs.Agreeing.{agreement-few, voted-of}
 use Rattle.voted.proofs.Joining.{run, past-fill, group-at, kept-fill, kept-group, stops-short, stops-unlike, stops-split, stops-left}
 use borrow.Author.Needs.{needs}
