@@ -67,7 +67,7 @@ check-from-buffer-requires : (t : ℕ) → check-from-lts.Need-buffer-requires (
   check-from-below t,
   check-from.Post,
 ) (check-from-at t) check-from.Post
-check-from-buffer-requires t c κs = search needs
+check-from-buffer-requires t c κs = tt
 
 check-from-slice-aggregate-arg : (t : ℕ) → check-from-lts.Need-slice-aggregate-arg (
   buffer-reads.Asked,
@@ -107,7 +107,7 @@ check-from-arg-requires : (t : ℕ) → check-from-lts.Need-arg-requires (
   check-from-below t,
   check-from.Post,
 ) (check-from-at t) check-from.Post
-check-from-arg-requires t c κs = search needs
+check-from-arg-requires t c κs = tt
 
 check-from-array-share-prefix-space : (t : ℕ) → check-from-lts.Need-array-share-prefix-space (
   buffer-reads.Asked,
@@ -167,7 +167,7 @@ check-from-open-read-requires : (t : ℕ) → check-from-lts.Need-open-read-requ
   check-from-below t,
   check-from.Post,
 ) (check-from-at t) check-from.Post
-check-from-open-read-requires t c κs = search needs
+check-from-open-read-requires t c κs = tt
 
 check-from-slice-aggregate-begin-book : (t : ℕ) → check-from-lts.Need-slice-aggregate-begin-book (
   buffer-reads.Asked,
@@ -248,7 +248,7 @@ check-from-begin-book-requires : (t : ℕ) → check-from-lts.Need-begin-book-re
   check-from-below t,
   check-from.Post,
 ) (check-from-at t) check-from.Post
-check-from-begin-book-requires t c κs = search needs
+check-from-begin-book-requires t c κs = tt
 
 check-from-enum-told : (t : ℕ) → check-from-lts.Need-enum-told (
   buffer-reads.Asked,
@@ -390,7 +390,7 @@ check-from-in-small-room-requires : (t : ℕ) → check-from-lts.Need-in-small-r
   check-from-below t,
   check-from.Post,
 ) (check-from-at t) check-from.Post
-check-from-in-small-room-requires t c κs = search needs
+check-from-in-small-room-requires t c κs = tt
 
 check-from-enum-told-3 : (t : ℕ) → check-from-lts.Need-enum-told-3 (
   buffer-reads.Asked,
@@ -512,7 +512,7 @@ check-from-in-large-room-requires : (t : ℕ) → check-from-lts.Need-in-large-r
   check-from-below t,
   check-from.Post,
 ) (check-from-at t) check-from.Post
-check-from-in-large-room-requires t c κs = search needs
+check-from-in-large-room-requires t c κs = tt
 
 check-from-close-requires : (t : ℕ) → check-from-lts.Need-close-requires (
   buffer-reads.Asked,
@@ -532,7 +532,7 @@ check-from-close-requires : (t : ℕ) → check-from-lts.Need-close-requires (
   check-from-below t,
   check-from.Post,
 ) (check-from-at t) check-from.Post
-check-from-close-requires t c κs = search needs
+check-from-close-requires t c κs = tt
 
 check-from-add-check-from : (t : ℕ) → check-from-lts.Need-add-check-from (
   buffer-reads.Asked,

@@ -102,7 +102,7 @@ compare-from-begin-at-requires : (t : ℕ) → compare-from-lts.Need-begin-at-re
   higher-reads.Asked,
   higher-reads.Learnt,
 ) (compare-from-at t) compare-from.Post
-compare-from-begin-at-requires t c κs = search needs
+compare-from-begin-at-requires t c κs = tt
 
 compare-from-add-begin-at : (t : ℕ) → compare-from-lts.Need-add-begin-at (
   begin-at-reads.Asked,
@@ -138,7 +138,7 @@ compare-from-begin-at-requires-2 : (t : ℕ) → compare-from-lts.Need-begin-at-
   higher-reads.Asked,
   higher-reads.Learnt,
 ) (compare-from-at t) compare-from.Post
-compare-from-begin-at-requires-2 t c κs = search needs
+compare-from-begin-at-requires-2 t c κs = tt
 
 compare-from-larger-requires : (t : ℕ) → compare-from-lts.Need-larger-requires (
   begin-at-reads.Asked,
@@ -156,7 +156,7 @@ compare-from-larger-requires : (t : ℕ) → compare-from-lts.Need-larger-requir
   higher-reads.Asked,
   higher-reads.Learnt,
 ) (compare-from-at t) compare-from.Post
-compare-from-larger-requires t c κs = search needs
+compare-from-larger-requires t c κs = tt
 
 compare-from-enum-told : (t : ℕ) → compare-from-lts.Need-enum-told (
   begin-at-reads.Asked,
@@ -286,7 +286,7 @@ compare-from-in-small-rooms-requires : (t : ℕ) → compare-from-lts.Need-in-sm
   higher-reads.Asked,
   higher-reads.Learnt,
 ) (compare-from-at t) compare-from.Post
-compare-from-in-small-rooms-requires t c κs = search needs
+compare-from-in-small-rooms-requires t c κs = tt
 
 compare-from-enum-told-3 : (t : ℕ) → compare-from-lts.Need-enum-told-3 (
   begin-at-reads.Asked,
@@ -398,7 +398,7 @@ compare-from-in-large-rooms-requires : (t : ℕ) → compare-from-lts.Need-in-la
   higher-reads.Asked,
   higher-reads.Learnt,
 ) (compare-from-at t) compare-from.Post
-compare-from-in-large-rooms-requires t c κs = search needs
+compare-from-in-large-rooms-requires t c κs = tt
 
 compare-from-close-requires : (t : ℕ) → compare-from-lts.Need-close-requires (
   begin-at-reads.Asked,
@@ -416,7 +416,7 @@ compare-from-close-requires : (t : ℕ) → compare-from-lts.Need-close-requires
   higher-reads.Asked,
   higher-reads.Learnt,
 ) (compare-from-at t) compare-from.Post
-compare-from-close-requires t c κs = search needs
+compare-from-close-requires t c κs = tt
 
 compare-from-close-requires-2 : (t : ℕ) → compare-from-lts.Need-close-requires-2 (
   begin-at-reads.Asked,
@@ -434,7 +434,7 @@ compare-from-close-requires-2 : (t : ℕ) → compare-from-lts.Need-close-requir
   higher-reads.Asked,
   higher-reads.Learnt,
 ) (compare-from-at t) compare-from.Post
-compare-from-close-requires-2 t c κs = search needs
+compare-from-close-requires-2 t c κs = tt
 
 compare-from-add-compare-from : (t : ℕ) → compare-from-lts.Need-add-compare-from (
   begin-at-reads.Asked,
@@ -495,7 +495,7 @@ compare-from-higher-requires : (t : ℕ) → compare-from-lts.Need-higher-requir
   higher-reads.Asked,
   higher-reads.Learnt,
 ) (compare-from-at t) compare-from.Post
-compare-from-higher-requires t c κs = search needs
+compare-from-higher-requires t c κs = tt
 
 compare-from-returns-3 : (t : ℕ) → compare-from-lts.Need-returns-3 (
   begin-at-reads.Asked,

@@ -106,7 +106,7 @@ find-from-buffer-requires : (t : ℕ) → find-from-lts.Need-buffer-requires (
   find-from-below t,
   find-from.Post,
 ) (find-from-at t) find-from.Post
-find-from-buffer-requires t c κs = search needs
+find-from-buffer-requires t c κs = tt
 
 find-from-slice-aggregate-arg : (t : ℕ) → find-from-lts.Need-slice-aggregate-arg (
   buffer-reads.Asked,
@@ -146,7 +146,7 @@ find-from-arg-requires : (t : ℕ) → find-from-lts.Need-arg-requires (
   find-from-below t,
   find-from.Post,
 ) (find-from-at t) find-from.Post
-find-from-arg-requires t c κs = search needs
+find-from-arg-requires t c κs = tt
 
 find-from-array-share-prefix-space : (t : ℕ) → find-from-lts.Need-array-share-prefix-space (
   buffer-reads.Asked,
@@ -206,7 +206,7 @@ find-from-open-read-requires : (t : ℕ) → find-from-lts.Need-open-read-requir
   find-from-below t,
   find-from.Post,
 ) (find-from-at t) find-from.Post
-find-from-open-read-requires t c κs = search needs
+find-from-open-read-requires t c κs = tt
 
 find-from-slice-aggregate-begin-book : (t : ℕ) → find-from-lts.Need-slice-aggregate-begin-book (
   buffer-reads.Asked,
@@ -286,7 +286,7 @@ find-from-begin-book-requires : (t : ℕ) → find-from-lts.Need-begin-book-requ
   find-from-below t,
   find-from.Post,
 ) (find-from-at t) find-from.Post
-find-from-begin-book-requires t c κs = search needs
+find-from-begin-book-requires t c κs = tt
 
 find-from-enum-told : (t : ℕ) → find-from-lts.Need-enum-told (
   buffer-reads.Asked,
@@ -448,7 +448,7 @@ find-from-in-small-room-requires : (t : ℕ) → find-from-lts.Need-in-small-roo
   find-from-below t,
   find-from.Post,
 ) (find-from-at t) find-from.Post
-find-from-in-small-room-requires t c κs = search needs
+find-from-in-small-room-requires t c κs = tt
 
 find-from-enum-told-3 : (t : ℕ) → find-from-lts.Need-enum-told-3 (
   buffer-reads.Asked,
@@ -590,7 +590,7 @@ find-from-in-large-room-requires : (t : ℕ) → find-from-lts.Need-in-large-roo
   find-from-below t,
   find-from.Post,
 ) (find-from-at t) find-from.Post
-find-from-in-large-room-requires t c κs = search needs
+find-from-in-large-room-requires t c κs = tt
 
 find-from-close-requires : (t : ℕ) → find-from-lts.Need-close-requires (
   buffer-reads.Asked,
@@ -610,7 +610,7 @@ find-from-close-requires : (t : ℕ) → find-from-lts.Need-close-requires (
   find-from-below t,
   find-from.Post,
 ) (find-from-at t) find-from.Post
-find-from-close-requires t c κs = search needs
+find-from-close-requires t c κs = tt
 
 find-from-add-find-from : (t : ℕ) → find-from-lts.Need-add-find-from (
   buffer-reads.Asked,

@@ -38,7 +38,8 @@ loop-again c =
     let looped = c .before .before .before .before .before .before in
     let start = looped .before .before .before .before .before in
     let byte = c .before .before .before .before .before in
-    (omega arith, adds-one-more (now (start .args .text)) (looped .loop .i) (byte .loop-test .taken) (looped .loop .inv .1) (c .before .before .put-byte .ensures))
+    let so-far = looped .loop .inv .1 in
+    (omega arith, adds-one-more (now (start .args .text)) (looped .loop .i) (byte .loop-test .taken) so-far (c .before .before .put-byte .ensures))
 
 same-length : tie.Need-same-length Inv-loop μ-loop
 same-length c = c .before .loop .inv .1 .size-is
