@@ -102,12 +102,13 @@ fn reel(r: &mut Random, rare: usize) -> Vec<u8> {
 }
 
 fn frames(r: &mut Random, rare: usize) -> Vec<u8> {
-    let (spacing, mut out) = ([0, 0, 1, 5][r.below(4)], Vec::new());
-    let count = if r.one_in(rare) { 140 + r.below(140) } else { 1 + r.below(12) };
+    // A long reel has few faults, so that it holds major frames after the first run, whose begin is lost.
+    let (count, often, spacing) = if r.one_in(rare) { (260 + r.below(30), 1500, 0) } else { (1 + r.below(12), 24, [0, 0, 1, 5][r.below(4)]) };
+    let mut out = Vec::new();
     for number in 0..count {
         let mut words = stream::frame(r, (number % 128) as u8, stream::Data::Any);
         words[3] %= 16;
-        match r.below(24) {
+        match r.below(often) {
             0 => words[3] = 0xFA,
             1 => {
                 let at = 4 + r.below(120);
