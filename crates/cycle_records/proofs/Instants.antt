@@ -4,11 +4,11 @@ use mathlib.Core.Bool.{Bool, true, false, _&&_}
 use Prim.Native.Nat.{ℕ, zero, suc, _+_, _*_, _-_, _≤_, _<_}
 use native.Mathlib.Omega.{arith}
 use lib.Dec.{leb}
-use borrow.Author.Tests.{leb-true}
+use borrow.Author.Tests.{ne-eqb, leb-true}
 use Rattle.time_code.specs.Calendar.{lastDay}
 use Rattle.time_code.specs.Codec.{hasCode}
 use Rattle.time_code.specs.Fields.{dayOf}
-use Rattle.cycle_records.specs.Instants.{recordInstant, isWritable}
+use Rattle.cycle_records.specs.Instants.{recordInstant, SameInstants, isWritable}
 
 -- ---- moved by whole major frames
 module _ (t : ℕ) where
@@ -27,6 +27,11 @@ module _ (t : ℕ) where
   moved (suc (suc zero)) h l = omega arith
   moved (suc (suc (suc zero))) h l = omega arith
   moved (suc (suc (suc (suc k)))) h l = absurd (omega arith)
+
+-- a major frame above the last has the instant of the last
+pub last-frame : (k : ℕ) → 3 ≤ k → SameInstants 3 k
+unfolding recordInstant
+last-frame k h t = rw (ne-eqb k 0 (λ e. omega arith), ne-eqb k 1 (λ e. omega arith), ne-eqb k 2 (λ e. omega arith))
 
 -- ---- an instant that the writer takes was not cut off at 0, so that it is in step
 day-one : (y i : ℕ) → isWritable y i ≡ true → 0 < i

@@ -1,4 +1,3 @@
 pub mod Refusals
 pub mod Instants
-pub mod Columns
 pub mod Known

@@ -1,4 +1,5 @@
 -- The time of the attitude, the ephemeris and the gyro drift in a cycle (DFCB 3.2.7.4.4, 3.2.7.4.5, 3.2.7.4.8). Definitions only.
+use mathlib.Core.Path.{_≡_}
 use mathlib.Core.Bool.{Bool, cond}
 use Prim.Native.Nat.{ℕ, _+_, _-_}
 use lib.Dec.{eqb}
@@ -12,6 +13,10 @@ majorFrameTime = 65536
 unfoldable pub recordInstant : ℕ → ℕ → ℕ
 recordInstant t k =
     cond (eqb k 0) (t - (majorFrameTime + majorFrameTime)) (cond (eqb k 1) (t - majorFrameTime) (cond (eqb k 2) t (t + majorFrameTime)))
+
+-- the records of j and of k have the same instant
+abbrev pub SameInstants : ℕ → ℕ → Type 0
+SameInstants j k = (t : ℕ) → recordInstant t j ≡ recordInstant t k
 
 -- the time writer takes it as one of the year y: it lies in the year's days
 abbrev pub isWritable : ℕ → ℕ → Bool

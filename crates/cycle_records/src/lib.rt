@@ -1,14 +1,10 @@
-// What the records of a cycle share: when they are refused, the instant that they have (DFCB 3.2.7.4.5, 3.2.7.4.8), and the counts of word 72 that
-// they are made of.
+// What the records of a cycle share: when they are refused, and the instant that they have (DFCB 3.2.7.4.5, 3.2.7.4.8).
 ghost use mathlib.Core.Path.{_≡_};
-ghost use Prim.Native.Nat.{_+_, _≤_, _<_, _^_};
-ghost use lib.ListN.{length};
+ghost use Prim.Native.Nat.{_≤_, _<_, _^_};
 ghost use Rattle.base.specs.Refusal.{refusal as number};
 ghost use Rattle.cycle.specs.Cycle.{instantOf};
-ghost use Rattle.cycle_records.specs.Columns.{columnOf, countAt};
-ghost use Rattle.cycle_records.specs.Instants.{recordInstant, isWritable};
+ghost use Rattle.cycle_records.specs.Instants.{recordInstant, SameInstants, isWritable};
 ghost use Rattle.cycle_records.specs.Lines.{cycleLines, datedLines};
-use base::format;
 use base::refusal;
 use time_code::year;
 
@@ -56,12 +52,21 @@ pub fn dated_refusal(body: &[u8], year: u64, k: u64) -> u8
     refusal::TIME_OUT_OF_RANGE
 }
 
-// The instant of the records of major frame k.
+// The instant of the records of major frame k; of any above 3 that of the last.
 pub fn instant(body: &[u8], year: u64, k: u64) -> u64
-    requires { ⌜ k ≤ 3 ⌝ }
     ensures { λ r. ⌜ r ≡ recordInstant (instantOf year (now (body .entry))) k ⌝ }
 {
-    record_instant(cycle::instant(year, body), k)
+    record_instant(cycle::instant(year, body), frame_of(k))
+}
+
+// k, or the last major frame, whose records have the same instant.
+fn frame_of(k: u64) -> u64
+    ensures { λ r. ⌜ (r ≤ 3) × SameInstants r k ⌝ }
+{
+    if k < LAST_FRAME {
+        return k;
+    }
+    LAST_FRAME
 }
 
 // k major frames on and two back; 0 where that would be below 0.
@@ -82,34 +87,4 @@ fn is_writable(year: u64, instant: u64) -> bool
 {
     let day = instant / TICKS_PER_DAY;
     (1 <= day) & (day <= year::last_day(year))
-}
-
-// Word 72 of major frame k.
-pub fn column(body: &[u8], k: u64) -> [u8; 128]
-    requires { ⌜ (length (now body) ≡ 65536) × (k ≤ 3) ⌝ }
-    ensures { λ r. ⌜ (r ≡ columnOf (now (body .entry)) k) × (length r ≡ 128) ⌝ }
-{
-    let start = k as usize * format::MAJOR_FRAME;
-    let end = start + format::MAJOR_FRAME;
-    let mut column = [0u8; 128];
-    word72_column::gather(&body[start..end], &mut column);
-    column
-}
-
-// The count of four bytes from a place of a column on.
-pub fn count32(column: &[u8], place: usize) -> u32
-    requires { ⌜ place + 4 ≤ length (now column) ⌝ }
-    ensures { λ r. ⌜ r ≡ countAt 4 (now (column .entry)) place ⌝ }
-{
-    let end = place + 4;
-    base::big_endian::read(&column[place..end]) as u32
-}
-
-// The count of two bytes from a place of a column on.
-pub fn count16(column: &[u8], place: usize) -> u64
-    requires { ⌜ place + 2 ≤ length (now column) ⌝ }
-    ensures { λ r. ⌜ r ≡ countAt 2 (now (column .entry)) place ⌝ }
-{
-    let end = place + 2;
-    base::big_endian::read(&column[place..end])
 }

@@ -5,8 +5,8 @@ ghost use lib.ListN.{length};
 ghost use Rattle.fixed_point.specs.Counts.{signed};
 ghost use Rattle.orbit.specs.Records.{word, attitudeIn, noAttitude};
 ghost use Rattle.orbit.specs.Promise.{AttitudePromise};
-use cycle_records::column;
-use cycle_records::count32;
+use crate::words::column;
+use crate::words::count32;
 use cycle_records::dated_refusal;
 
 // The four Euler parameters, as counts: the book's figure of their weight is lost.

@@ -3,8 +3,8 @@ ghost use mathlib.Core.Path.{_≡_};
 ghost use lib.ListN.{length};
 ghost use Rattle.orbit.specs.Records.{noClock};
 ghost use Rattle.orbit.specs.Promise.{ClockPromise, ClockIn};
-use cycle_records::column;
-use cycle_records::count16;
+use crate::words::column;
+use crate::words::count16;
 use cycle_records::cycle_refusal;
 
 // The last update of the clock, in seconds from midnight of the year's first day; and the terms of its drift, as counts in milliseconds, per day and

@@ -5,7 +5,7 @@ ghost use lib.ListN.{length};
 ghost use Rattle.orbit.specs.Records.{ephemerisPlace, noEphemeris};
 ghost use Rattle.orbit.specs.Promise.{EphemerisPromise, EphemerisIn};
 use crate::value;
-use cycle_records::column;
+use crate::words::column;
 use cycle_records::dated_refusal;
 
 // Binary places after the point: of a metre, and of a metre per millisecond.

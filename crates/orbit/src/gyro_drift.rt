@@ -4,7 +4,7 @@ ghost use lib.ListN.{length};
 ghost use Rattle.orbit.specs.Records.{noGyroDrift};
 ghost use Rattle.orbit.specs.Promise.{GyroDriftPromise, DriftIn};
 use crate::value;
-use cycle_records::column;
+use crate::words::column;
 use cycle_records::dated_refusal;
 
 // Binary places of a radian per second after the point.

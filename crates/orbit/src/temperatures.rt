@@ -5,9 +5,9 @@ ghost use lib.ListN.{length};
 ghost use Rattle.fixed_point.specs.Promise.{ScaledPromise};
 ghost use Rattle.orbit.specs.Records.{twelveBits, twelveAt, temperatureCount, upperClear, noTemperatures};
 ghost use Rattle.orbit.specs.Promise.{TemperaturesPromise, TemperaturesIn};
+use crate::words::column;
 use base::refusal;
 use base::wide;
-use cycle_records::column;
 use cycle_records::cycle_refusal;
 
 // Binary places of a degree after the point.

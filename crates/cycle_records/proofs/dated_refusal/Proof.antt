@@ -2,7 +2,7 @@
 use mathlib.Core.Path.{sym, _∙_}
 use mathlib.Core.Bool.{true, false}
 use denote.Ref.{now}
-use Rattle.cycle_records.proofs.Known.{to-cycle, dated-first, dated-last}
+use Rattle.cycle_records.proofs.Known.{dated-first, dated-last}
 use borrow.Author.Needs.{needs}
 use Rattle.cycle_records.proofs.dated_refusal.Statement.{statement}
 use Rattle.cycle_records.proofs.dated_refusal.Tie as tie
@@ -17,9 +17,7 @@ returns c =
     dated-first (now (a .body)) (a .year) (a .k) _ (told .cycle-refusal .ensures) (c .if1 .taken)
 
 instant-requires : tie.Need-instant-requires
-instant-requires c κs =
-    let a = c .before .before .before .args in
-    to-cycle (now (a .body)) (a .year) (a .k) (sym (c .before .cycle-refusal .ensures) ∙ c .if1 .left) .frame
+instant-requires c κs = search needs
 
 is-writable-requires : tie.Need-is-writable-requires
 is-writable-requires c κs = search needs

@@ -32,11 +32,7 @@ first-place-requires : tie.Need-first-place-requires
 first-place-requires c κs = search needs
 
 instant-requires : tie.Need-instant-requires
-instant-requires c κs =
-    let passed = c .before .before .before in
-    let told = passed .before in
-    let a = told .before .before .args in
-    dated-cycle (now (a .body)) (a .year) (a .k) (sym (told .dated-refusal .ensures) ∙ passed .if1 .left) .frame
+instant-requires c κs = search needs
 
 in-column-requires : tie.Need-in-column-requires
 in-column-requires c κs = search needs

@@ -1,10 +1,10 @@
--- `cycle_records::count16` meets its contract. Assumes nothing.
+-- `orbit::words::count16` meets its contract. Assumes nothing.
 use native.Mathlib.Omega.{arith}
 use denote.Ref.{now}
-use Rattle.cycle_records.proofs.Columns.{count-is}
+use Rattle.orbit.proofs.Gathering.{count-is}
 use borrow.Author.Needs.{needs}
-use Rattle.cycle_records.proofs.count16.Statement.{statement}
-use Rattle.cycle_records.proofs.count16.Tie as tie
+use Rattle.orbit.proofs.words.count16.Statement.{statement}
+use Rattle.orbit.proofs.words.count16.Tie as tie
 
 add-end : tie.Need-add-end
 add-end c = search needs

@@ -1,12 +1,12 @@
--- `cycle_records::column` meets its contract: what is gathered from rows of a cycle. Assumes nothing.
+-- `orbit::words::column` meets its contract: what is gathered from rows of a cycle. Assumes nothing.
 use mathlib.Core.Path.{ap, _∙_}
 use Prim.Native.Nat.{ℕ}
 use lib.ListN.{length, replicate, length-replicate}
 use denote.Ref.{now}
-use Rattle.cycle_records.proofs.Columns.{column-is, column-length}
+use Rattle.orbit.proofs.Gathering.{column-is, column-length}
 use borrow.Author.Needs.{needs}
-use Rattle.cycle_records.proofs.column.Statement.{statement}
-use Rattle.cycle_records.proofs.column.Tie as tie
+use Rattle.orbit.proofs.words.column.Statement.{statement}
+use Rattle.orbit.proofs.words.column.Tie as tie
 
 mul-start : tie.Need-mul-start
 mul-start c = search needs

@@ -1,10 +1,10 @@
--- `cycle_records::count32` meets its contract. Assumes nothing.
+-- `orbit::words::count32` meets its contract. Assumes nothing.
 use native.Mathlib.Omega.{arith}
 use denote.Ref.{now}
-use Rattle.cycle_records.proofs.Columns.{count-is, count-below}
+use Rattle.orbit.proofs.Gathering.{count-is, count-below}
 use borrow.Author.Needs.{needs}
-use Rattle.cycle_records.proofs.count32.Statement.{statement}
-use Rattle.cycle_records.proofs.count32.Tie as tie
+use Rattle.orbit.proofs.words.count32.Statement.{statement}
+use Rattle.orbit.proofs.words.count32.Tie as tie
 
 add-end : tie.Need-add-end
 add-end c = search needs
