@@ -182,13 +182,7 @@ def records():
 
 
 def main():
-    rows = list(records())
-    files = {
-        "stdin": b"".join(data for data, _ in rows),
-        "stdout": "".join(line + "\n" for _, line in rows if line is not None).encode(),
-    }
-    stored.keep(CRATE, files)
-    print(len([1 for _, line in rows if line is not None]), "vectors")
+    stored.keep_records(CRATE, list(records()))
 
 
 if __name__ == "__main__":

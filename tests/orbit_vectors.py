@@ -19,7 +19,7 @@ from fractions import Fraction
 
 import stored
 from word72_items import items
-from years import INSIDE, OUTSIDE, in_span, last_day
+from years import INSIDE, OUTSIDE, in_span, last_day, read_time
 
 CRATE = os.path.join("crates", "orbit_vectors")
 CYCLE, ROOM = 65536, 65664
@@ -61,14 +61,9 @@ def signed(data):
 
 
 def instant_of(year, code):
-    """The instant of a time code in sixteenths of a millisecond, None where it is not good in the year."""
-    text = code.hex()
-    if not text[1:13].isdigit():
-        return None
-    day, hour, minute, second, milli = (int(text[a:b]) for a, b in ((1, 4), (4, 6), (6, 8), (8, 10), (10, 13)))
-    if not (1 <= day <= last_day(year) and hour < 24 and minute < 60 and second < 60):
-        return None
-    return (((day * 24 + hour) * 60 + minute) * 60 + second) * 16000 + milli * 16 + int(text[13], 16)
+    """The instant of a time code, None where it is not good in the year."""
+    time = read_time(year, code)
+    return None if time is None else time[1]
 
 
 def column(body, k):

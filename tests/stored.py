@@ -23,3 +23,10 @@ def keep(folder, files):
         else:
             with open(path, "wb") as f:
                 f.write(data)
+
+
+def keep_records(folder, rows):
+    """Rows of a record's bytes and the line that it gives, None where it gives none."""
+    lines = [line for _, line in rows if line is not None]
+    keep(folder, {"stdin": b"".join(data for data, _ in rows), "stdout": "".join(line + "\n" for line in lines).encode()})
+    print(len(lines), "vectors")

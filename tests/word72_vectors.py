@@ -25,24 +25,13 @@ from fractions import Fraction
 
 from word72_items import items
 import stored
-from years import INSIDE, OUTSIDE, in_span, last_day
+from years import INSIDE, OUTSIDE, in_span, read_time
 
 CRATE = os.path.join("crates", "subcom_vectors")
 AREA, COLUMN, ROOM = 16384, 128, 160
 ITEMS = items()
 LEAP = 2000
 LARGE = (4, 5, 255, 256, 257, 1 << 32, (1 << 64) - 1)
-
-
-def read_time(year, code):
-    text = code.hex()
-    if not text[1:13].isdigit():
-        return None
-    day, hour, minute, second, milli = (int(text[a:b]) for a, b in ((1, 4), (4, 6), (6, 8), (8, 10), (10, 13)))
-    if not (1 <= day <= last_day(year) and hour < 24 and minute < 60 and second < 60):
-        return None
-    seconds = day * 86400 + hour * 3600 + minute * 60 + second
-    return int(text[0], 16), (seconds * 1000 + milli) * 16 + int(text[13], 16)
 
 
 def read_number(word):

@@ -30,37 +30,49 @@ read-some-requires c κs = tt
 
 same-length : tie.Need-same-length Inv-loop μ-loop
 same-length c =
-    let looped = c .before .before .before .before .before .before .before in
-    let inside = c .before .before .before .before .before .before .loop-test .taken in
-    same-size _ _ _ _ (looped .loop .inv) inside _ _ (c .before .before .before .before .read-some .ensures)
+    let read = c .before .before .before .before in
+    let tested = read .before .before in
+    let looped = tested .before in
+    let inside = tested .loop-test .taken in
+    same-size _ _ _ _ (looped .loop .inv) inside _ _ (read .read-some .ensures)
 
 returns : tie.Need-returns Inv-loop μ-loop
 returns c =
-    let looped = c .before .before .before .before .before .before .before in
-    let inside = c .before .before .before .before .before .before .loop-test .taken in
-    kept-done _ _ _ _ (looped .loop .inv) inside _ _ (c .before .before .before .before .read-some .ensures) _
+    let read = c .before .before .before .before in
+    let tested = read .before .before in
+    let looped = tested .before in
+    let inside = tested .loop-test .taken in
+    kept-done _ _ _ _ (looped .loop .inv) inside _ _ (read .read-some .ensures) _
 
 add-end : tie.Need-add-end Inv-loop μ-loop
 add-end c =
-    let looped = c .before .before .before .before .before .before .before .before in
-    let inside = c .before .before .before .before .before .before .before .loop-test .taken in
-    let all = fits _ _ _ _ (looped .loop .inv) inside _ _ (c .before .before .before .before .before .read-some .ensures) in
+    let left = c .before in
+    let read = left .before .before .before .before in
+    let tested = read .before .before in
+    let looped = tested .before in
+    let inside = tested .loop-test .taken in
+    let all = fits _ _ _ _ (looped .loop .inv) inside _ _ (read .read-some .ensures) in
     record { fits = omega (arith, looped .loop .inv .size-is) }
 
 loop-less : tie.Need-loop-less Inv-loop μ-loop
 loop-less c =
-    let looped = c .before .before .before .before .before .before .before .before in
-    let inside = c .before .before .before .before .before .before .before .loop-test .taken in
-    let read = c .before .before .before .before .before .read-some .ensures in
-    let all = fits _ _ _ _ (looped .loop .inv) inside _ _ read in
-    let same = same-size _ _ _ _ (looped .loop .inv) inside _ _ read in
+    let left = c .before in
+    let read = left .before .before .before .before in
+    let tested = read .before .before in
+    let looped = tested .before in
+    let inside = tested .loop-test .taken in
+    let all = fits _ _ _ _ (looped .loop .inv) inside _ _ (read .read-some .ensures) in
+    let same = same-size _ _ _ _ (looped .loop .inv) inside _ _ (read .read-some .ensures) in
     omega (arith, looped .loop .inv .size-is)
 
 loop-again : tie.Need-loop-again Inv-loop μ-loop
 loop-again c =
-    let looped = c .before .before .before .before .before .before .before .before in
-    let inside = c .before .before .before .before .before .before .before .loop-test .taken in
-    kept-on _ _ _ _ (looped .loop .inv) inside _ _ (c .before .before .before .before .before .read-some .ensures)
+    let left = c .before in
+    let read = left .before .before .before .before in
+    let tested = read .before .before in
+    let looped = tested .before in
+    let inside = tested .loop-test .taken in
+    kept-on _ _ _ _ (looped .loop .inv) inside _ _ (read .read-some .ensures)
 
 same-length-2 : tie.Need-same-length-2 Inv-loop μ-loop
 same-length-2 c = c .before .loop .inv .size-is
