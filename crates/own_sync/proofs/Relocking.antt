@@ -84,13 +84,13 @@ module _ (rule : ℕ) (a₀ : List ℕ) where
   vote = ruleVote rule
 
   -- the tally t and the area a after the bytes js, of which bs are the reel's and n lead-ins the others; w says whether a lock awaits its word
-  record Stands (w : Bool) (t : Tally) (a js bs : List ℕ) (n : ℕ) : Type 0 where
-    rule-is : t .rule ≡ rule
-    stage : Stage
-    rest : List Word
-    along : Along vote a₀ (stateOf t) a js bs stage rest n
-    settled : Settled stage
-    awaits-is : isAtLock stage ≡ w
+  pub record Stands (w : Bool) (t : Tally) (a js bs : List ℕ) (n : ℕ) : Type 0 where
+    pub rule-is : t .rule ≡ rule
+    pub stage : Stage
+    pub rest : List Word
+    pub along : Along vote a₀ (stateOf t) a js bs stage rest n
+    pub settled : Settled stage
+    pub awaits-is : isAtLock stage ≡ w
 
   -- ---- a call as far as a lock
 
@@ -202,8 +202,8 @@ module _ (rule : ℕ) (a₀ : List ℕ) where
   -- ---- a list of calls
 
   -- after js and xs the calls cs, which take the bytes bs of the reel and n lead-ins, leave t and a
-  record Took (w : Bool) (t : Tally) (a js xs bs : List ℕ) (cs : List Call) (m n : ℕ) : Type 0 where
-    stands : Stands w t a (js ++ joined cs) (xs ++ bs) (m + n)
+  pub record Took (w : Bool) (t : Tally) (a js xs bs : List ℕ) (cs : List Call) (m n : ℕ) : Type 0 where
+    pub stands : Stands w t a (js ++ joined cs) (xs ++ bs) (m + n)
     length-is : length (joined cs) ≡ length bs + 12 * n
 
   -- what a lock may meet
@@ -232,7 +232,7 @@ module _ (rule : ℕ) (a₀ : List ℕ) where
   unfolding joined
   took-changed d r = record { stands = r .stands; length-is = r .length-is }
 
-  stands-changed : {w : Bool} {a js xs : List ℕ} {m : ℕ} (d : DutyCall) → dutyRefusal d ≡ 0 → Stands w (d .tally) a js xs m
+  pub stands-changed : {w : Bool} {a js xs : List ℕ} {m : ℕ} (d : DutyCall) → dutyRefusal d ≡ 0 → Stands w (d .tally) a js xs m
       → Stands w (dutyAnswer d) a js xs m
   stands-changed d e i = record {
     rule-is = duty-rule d e ∙ i .rule-is;
@@ -244,7 +244,7 @@ module _ (rule : ℕ) (a₀ : List ℕ) where
   }
 
   -- a call as far as a lock
-  stands-on : {js xs : List ℕ} {m : ℕ} (w : Bool) (c : TakeCall) → takeRefusal c ≡ 0 → (w ≡ true → endsBehind (wordsNext (c .tally) (c .piece)) ≡ true)
+  pub stands-on : {js xs : List ℕ} {m : ℕ} (w : Bool) (c : TakeCall) → takeRefusal c ≡ 0 → (w ≡ true → endsBehind (wordsNext (c .tally) (c .piece)) ≡ true)
       → Stands w (c .tally) (c .area) js xs m
       → Stands (awaitsAfter w c) (answer (toLock c) .tally) (answer (toLock c) .area) (js ++ taken (toLock c)) (xs ++ taken (toLock c)) m
   stands-on w c e f i = after-call c e (i .rule-is) (i .along) (may-meet (i .stage) (i .settled) w (i .awaits-is) _ f) w (i .awaits-is)
@@ -263,13 +263,13 @@ module _ (rule : ℕ) (a₀ : List ℕ) where
     abbrev d : TakeCall
     d = afterLeadIn c
 
-    awaiting : Along vote a₀ (stateOf (c .tally)) (c .area) js xs at-lock (i .rest) m
+    pub awaiting : Along vote a₀ (stateOf (c .tally)) (c .area) js xs at-lock (i .rest) m
     awaiting = rw (awaits-at-lock (i .stage) (i .awaits-is)) at (i .along)
 
-    lead-is : taken (leadIn c) ≡ leadInBytes
+    pub lead-is : taken (leadIn c) ≡ leadInBytes
     lead-is = lead-taken c e (i .rule-is) z awaiting
 
-    stands-led : Stands (locked d) (answer (toLock d) .tally) (answer (toLock d) .area) ((js ++ taken (leadIn c)) ++ taken (toLock d))
+    pub stands-led : Stands (locked d) (answer (toLock d) .tally) (answer (toLock d) .area) ((js ++ taken (leadIn c)) ++ taken (toLock d))
         (xs ++ taken (toLock d)) (suc m)
     stands-led = rw lead-is (led-call c e (i .rule-is) z awaiting f (rw (i .rule-is) at o))
 
@@ -294,7 +294,7 @@ module _ (rule : ℕ) (a₀ : List ℕ) where
   unfolding joined
   took-none js xs m i = record { stands = rw (append-nil js, append-nil xs, add-zero m) i; length-is = omega arith }
 
-  took-all : {w w′ : Bool} {t t′ : Tally} {a a′ bs : List ℕ} {cs : List Call} {n : ℕ} → Relocked w t a bs cs w′ t′ a′ n → (js xs : List ℕ) (m : ℕ)
+  pub took-all : {w w′ : Bool} {t t′ : Tally} {a a′ bs : List ℕ} {cs : List Call} {n : ℕ} → Relocked w t a bs cs w′ t′ a′ n → (js xs : List ℕ) (m : ℕ)
       → Stands w t a js xs m → Took w′ t′ a′ js xs bs cs m n
   took-all done js xs m i = took-none js xs m i
   took-all (refused c k e h) js xs m i = took-refused c k e (took-all h js xs m i)
@@ -305,7 +305,7 @@ module _ (rule : ℕ) (a₀ : List ℕ) where
 
   -- ---- the claim
 
-  start-stands : isRule rule ≡ true → length a₀ ≡ 16384 → Stands false (fresh rule) a₀ [] [] 0
+  pub start-stands : isRule rule ≡ true → length a₀ ≡ 16384 → Stands false (fresh rule) a₀ [] [] 0
   unfolding fresh
   start-stands is-rule whole = record { rule-is = refl; stage = in-hunt; rest = []; along = along-start vote a₀ whole; settled = tt; awaits-is = refl }
 
