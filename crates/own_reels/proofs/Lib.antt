@@ -1,3 +1,4 @@
 pub mod Finding
 pub mod Marks
 pub mod AnyCut
+pub mod Damage

@@ -1,2 +1,3 @@
 pub mod HandedIn
 pub mod AnyCut
+pub mod Damage

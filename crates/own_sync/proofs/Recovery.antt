@@ -63,7 +63,7 @@ pub record LaidOut (m : OwnMode) (ws : List Word) (fs : List (List Word)) (k : �
   pub frames-are : framesHeld (owns m ws) ≡ fs ++ framesHeld (owns m′ ys)
   pub found-are : foundIn (owns m ws) ≡ k + foundIn (owns m′ ys)
 
-then : {l m n : OwnMode} {ws xs ys : List Word} {fs gs : List (List Word)} {j k : ℕ} → LaidOut l ws fs j m xs → LaidOut m xs gs k n ys
+pub then : {l m n : OwnMode} {ws xs ys : List Word} {fs gs : List (List Word)} {j k : ℕ} → LaidOut l ws fs j m xs → LaidOut m xs gs k n ys
     → LaidOut l ws (fs ++ gs) (j + k) n ys
 then {fs = fs} {gs = gs} a b = record {
   frames-are = a .frames-are ∙ rw (b .frames-are) (sym (append-assoc fs gs _));
@@ -71,14 +71,14 @@ then {fs = fs} {gs = gs} a b = record {
 }
 
 -- the cut is these pieces, and then the cut of ys
-laid : {m m′ : OwnMode} {ws ys : List Word} (os : List Own) → owns m ws ≡ os ++ owns m′ ys → LaidOut m ws (framesHeld os) (foundIn os) m′ ys
+pub laid : {m m′ : OwnMode} {ws ys : List Word} (os : List Own) → owns m ws ≡ os ++ owns m′ ys → LaidOut m ws (framesHeld os) (foundIn os) m′ ys
 laid {m′ = m′} {ys = ys} os e = record {
   frames-are = ap framesHeld e ∙ concatMap-append (λ (o : Own). frameOf (o .piece)) os (owns m′ ys);
   found-are = ap foundIn e ∙ sumBy-append (λ (o : Own). one (o .found)) os (owns m′ ys);
 }
 
 -- a frame of any class
-any-frame : (found : Bool) (f ys : List Word) → length f ≡ 128
+pub any-frame : (found : Bool) (f ys : List Word) → length f ≡ 128
     → LaidOut (beginning found) (f ++ ys) (f ∷ []) (one found) (ownMode (modeAfter (frameClass f))) ys
 any-frame found f ys l = record {
   frames-are = ap framesHeld (own-frame-closes found f ys l);
@@ -95,7 +95,7 @@ good-frames n [] ys w = record { frames-are = refl; found-are = omega arith }
 good-frames n (f ∷ fs) ys w =
     rw append-assoc (then (good-frame n false f (concatMap (λ (f : List Word). f) fs ++ ys) (w .0) (w .1)) (good-frames (suc n) fs ys (w .2)))
 
-good-majors : (ms : List (List (List Word))) (ys : List Word) → AllWhole ms → LaidOut places (wordsIn ms ++ ys) (concatMap (λ m. m) ms) 0 places ys
+pub good-majors : (ms : List (List (List Word))) (ys : List Word) → AllWhole ms → LaidOut places (wordsIn ms ++ ys) (concatMap (λ m. m) ms) 0 places ys
 good-majors [] ys w = record { frames-are = refl; found-are = omega arith }
 good-majors (m ∷ ms) ys w =
     rw append-assoc (then (good-frames 0 m (wordsIn ms ++ ys) (w .1)) (good-majors ms ys (w .2)))
@@ -136,7 +136,7 @@ clear-then-sync (x ∷ y ∷ z ∷ q) ys e = go (synced (x ∷ y ∷ z ∷ q)) r
         omega (arith, before-more x ((y ∷ z ∷ q ++ sync) ++ ys) s, ih (omega (arith, before-more x (y ∷ z ∷ q) s)))
 
 -- the hunt ends before a frame with its sync, if its word 3 is not FA
-hunt-finds : (q f ys : List Word) → beforeSync q ≡ length q → length f ≡ 128 → synced f ≡ true → PlainAfterSync f
+pub hunt-finds : (q f ys : List Word) → beforeSync q ≡ length q → length f ≡ 128 → synced f ≡ true → PlainAfterSync f
     → LaidOut seeks (q ++ (f ++ ys)) [] 0 finds (f ++ ys)
 hunt-finds q f ys e l s plain = go (begins f l s)
   where
@@ -163,7 +163,7 @@ hunt-finds q f ys e l s plain = go (begins f l s)
         rw is (none (sync ++ rest) (laid (ifAny (λ (l : List Word). asOwn false (hunted l)) q) here))
 
 -- behind FA F3 20 a frame begins that has its sync
-hunt-behind : (p f ys : List Word) → Found p → length f ≡ 128 → synced f ≡ true → LaidOut seeks (p ++ (f ++ ys)) [] 0 places (f ++ ys)
+pub hunt-behind : (p f ys : List Word) → Found p → length f ≡ 128 → synced f ≡ true → LaidOut seeks (p ++ (f ++ ys)) [] 0 places (f ++ ys)
 hunt-behind p f ys d l s = go (begins f l s)
   where
     go : Begins f → LaidOut seeks (p ++ (f ++ ys)) [] 0 places (f ++ ys)
@@ -177,7 +177,7 @@ hunt-behind p f ys d l s = go (begins f l s)
 -- ---- a whole major frame at the head
 
 -- cut as it is, its first frame found by a hunt or not
-major-cut : (found : Bool) (m : List (List Word)) (ys : List Word) → 0 < length m → WholeFrom 0 m
+pub major-cut : (found : Bool) (m : List (List Word)) (ys : List Word) → 0 < length m → WholeFrom 0 m
     → LaidOut (beginning found) (concatMap (λ f. f) m ++ ys) m (one found) places ys
 major-cut found [] ys h w = absurd (omega arith)
 major-cut found (f ∷ fs) ys h w =
@@ -227,7 +227,7 @@ pub record First (m : List (List Word)) (on : List Word) : Type 0 where
   pub full : length f ≡ 128
   pub has-sync : synced f ≡ true
 
-first-frame : (m : List (List Word)) (on : List Word) → length m ≡ 128 → WholeFrom 0 m → First m on
+pub first-frame : (m : List (List Word)) (on : List Word) → length m ≡ 128 → WholeFrom 0 m → First m on
 first-frame [] on l w = absurd (omega arith)
 first-frame (f ∷ fs) on l w = record {
   f = f;
@@ -296,15 +296,15 @@ module _ (m : List (List Word)) (ms : List (List (List Word))) (tail : List Word
 -- ---- after any words
 
 -- the cut comes from ws to ys, with some frames
-record Comes (m : OwnMode) (ws : List Word) (m′ : OwnMode) (ys : List Word) : Type 0 where
-  frames : List (List Word)
-  count : ℕ
-  cut : LaidOut m ws frames count m′ ys
+pub record Comes (m : OwnMode) (ws : List Word) (m′ : OwnMode) (ys : List Word) : Type 0 where
+  pub frames : List (List Word)
+  pub count : ℕ
+  pub cut : LaidOut m ws frames count m′ ys
 
-comes : {m m′ : OwnMode} {ws ys : List Word} {fs : List (List Word)} {k : ℕ} → LaidOut m ws fs k m′ ys → Comes m ws m′ ys
+pub comes : {m m′ : OwnMode} {ws ys : List Word} {fs : List (List Word)} {k : ℕ} → LaidOut m ws fs k m′ ys → Comes m ws m′ ys
 comes {fs = fs} {k = k} x = record { frames = fs; count = k; cut = x }
 
-comes-on : {l m n : OwnMode} {ws xs ys : List Word} → Comes l ws m xs → Comes m xs n ys → Comes l ws n ys
+pub comes-on : {l m n : OwnMode} {ws xs ys : List Word} → Comes l ws m xs → Comes m xs n ys → Comes l ws n ys
 comes-on a b = comes (then (a .cut) (b .cut))
 
 -- what is cut off does not touch the major frames of what follows
@@ -333,12 +333,12 @@ synced-more (x ∷ []) ys h = absurd (omega arith)
 synced-more (x ∷ y ∷ []) ys h = absurd (omega arith)
 synced-more (x ∷ y ∷ z ∷ l) ys h = refl
 
-unsynced-class : (f : List Word) → synced f ≡ false → frameClass f ≡ Unsynced
+pub unsynced-class : (f : List Word) → synced f ≡ false → frameClass f ≡ Unsynced
 unfolding frameClass
 unsynced-class f e = rw e
 
 -- words v of a frame, not all of it, stand before the frame f: what is cut there as a frame has no sync
-not-synced : (v f : List Word) (k : ℕ) → 0 < length v → beforeSync v ≡ length v → length f ≡ 128 → synced f ≡ true → 3 ≤ length (v ++ take k f)
+pub not-synced : (v f : List Word) (k : ℕ) → 0 < length v → beforeSync v ≡ length v → length f ≡ 128 → synced f ≡ true → 3 ≤ length (v ++ take k f)
     → synced (v ++ take k f) ≡ false
 not-synced [] f k some e l s h = absurd (omega arith)
 not-synced (x ∷ v) f k some e l s h = go (begins f l s) (synced (x ∷ v ++ take k f)) refl
@@ -356,17 +356,17 @@ not-synced (x ∷ v) f k some e l s h = go (begins f l s) (synced (x ∷ v ++ ta
         absurd (omega (arith, ap beforeSync is, clear-then-sync (x ∷ v) (b .rest) e))
 
 -- the words p of a frame, and k words of the next, in the place of a frame
-shifted : (k : ℕ) (p f ys : List Word) → p ++ (f ++ ys) ≡ (p ++ take k f) ++ (drop k f ++ ys)
+pub shifted : (k : ℕ) (p f ys : List Word) → p ++ (f ++ ys) ≡ (p ++ take k f) ++ (drop k f ++ ys)
 shifted k p f ys =
     let whole : f ++ ys ≡ take k f ++ (drop k f ++ ys) =
     ap (λ (l : List Word). l ++ ys) (sym (take-append-drop k f)) ∙ append-assoc (take k f) (drop k f) ys in
     ap (λ (l : List Word). p ++ l) whole ∙ sym (append-assoc p (take k f) (drop k f ++ ys))
 
-shifted-length : (k : ℕ) (p f : List Word) → length f ≡ 128 → length p + k ≡ 128 → length (p ++ take k f) ≡ 128
+pub shifted-length : (k : ℕ) (p f : List Word) → length f ≡ 128 → length p + k ≡ 128 → length (p ++ take k f) ≡ 128
 shifted-length k p f l e = omega (arith, length-append p (take k f), length-take-le k f (omega arith))
 
 -- what is left of a frame that conforms
-clear-left : (k : ℕ) (f : List Word) → 0 < k → Conforms f → beforeSync (drop k f) ≡ length (drop k f)
+pub clear-left : (k : ℕ) (f : List Word) → 0 < k → Conforms f → beforeSync (drop k f) ≡ length (drop k f)
 clear-left zero f h c = absurd (omega arith)
 clear-left (suc k) [] h c = refl
 clear-left (suc k) (x ∷ f) h c = clear-part k f (c .no-second)

@@ -1,0 +1,203 @@
+-- Two minor frames bring the cut back into step: a hunt finds the first of them, or the frame under way ends in the first; then, where it closes with a sync,
+-- one more is cut wrong, which has none, and a hunt finds the third. Whole major frames behind them are cut as they are, whatever follows. Assumes nothing.
+use mathlib.Core.Path.{_≡_, refl, sym, ap, _∙_}
+use mathlib.Core.Bool.{Bool, true, false, cond}
+use mathlib.Core.List.{List, [], _∷_, _++_, map-append, append-assoc, append-nil}
+use Prim.Native.Nat.{ℕ, suc, _+_, _-_, _<_}
+use native.Mathlib.Omega.{arith}
+use lib.ListN.{length, getD, take, drop, length-drop}
+use Rattle.base.specs.Lists.{concatMap, one}
+use Rattle.labelling.specs.declared.FrameClass.{FrameClass}
+use Rattle.labelling.specs.declared.FrameClass.the-variants.{Good, Damaged, Unsynced}
+use Rattle.labelling.specs.declared.Word.{Word}
+use Rattle.labelling.specs.Words.{words}
+use Rattle.labelling.specs.Votes.{ruleVote}
+use Rattle.labelling.specs.MinorFrames.{synced, anyErased, frameClass, modeAfter, placing}
+use Rattle.labelling.specs.MajorFrames.{values, majors, major}
+use Rattle.labelling.specs.Calls.{Call}
+use Rattle.labelling.specs.declared.Tally.{Tally}
+use Rattle.labelling.proofs.IfAny.{ifAny}
+use Rattle.labelling.proofs.RunCuts.{Chain, Cuts, cuts-both, cuts-major}
+use Rattle.own_sync.specs.OwnCut.{beforeSync, OwnMode, seeks, places, finds, ownMode, ownFrames}
+use Rattle.own_sync.specs.Recovery.{WholeFrom, AllWhole, wordsIn, bytesIn, PlainAfterSync}
+use Rattle.own_sync.specs.OwnOnce.{OwnOnce}
+use Rattle.own_sync.proofs.OwnCuts.{owns, framesHeld, own-frames, foundIn, beginning, sync}
+use Rattle.own_sync.proofs.Beside.{Stage, in-hunt, in-frame, at-lock, led-in, ownModeAt, Kept, Settled, Reached, reached}
+use Rattle.own_sync.proofs.OwnHunt.{Found}
+use Rattle.own_sync.proofs.Recovery.{LaidOut, then, laid, any-frame, good-majors, hunt-finds, hunt-behind, major-cut, First, first-frame}
+use Rattle.own_sync.proofs.Recovery.{Comes, comes, comes-on, later-majors, unsynced-class, not-synced, shifted, shifted-length, clear-left}
+use Rattle.own_reels.specs.Damage.{Standing, AroundDamage}
+
+-- ---- a frame with its sync
+
+-- behind it the next begins
+next-begins : (f : List Word) → synced f ≡ true → ownMode (modeAfter (frameClass f)) ≡ places
+unfolding frameClass
+next-begins f s = rw s (go (anyErased f))
+  where
+    go : (e : Bool) → ownMode (modeAfter (cond e Damaged Good)) ≡ places
+    go true = refl
+    go false = refl
+
+synced-frame : (found : Bool) (f ys : List Word) → length f ≡ 128 → synced f ≡ true → Comes (beginning found) (f ++ ys) places ys
+synced-frame found f ys l s = rw (next-begins f s) at (comes (any-frame found f ys l))
+
+-- ---- two of them
+
+-- the cut comes to the frame h, which a hunt has found or not
+record InStep (m : OwnMode) (ws ys : List Word) : Type 0 where
+  found : Bool
+  cut : Comes m ws (beginning found) ys
+
+module _ (f g h ys : List Word) (sf : Standing f) (sg : Standing g) (lh : length h ≡ 128) (sh : synced h ≡ true) (plain : PlainAfterSync h) where
+  abbrev after-g : List Word
+  after-g = h ++ ys
+
+  abbrev after-f : List Word
+  after-f = g ++ after-g
+
+  -- the cut is in step before f, or before g
+  from-g : {m : OwnMode} {ws : List Word} (found : Bool) → Comes m ws (beginning found) after-f → InStep m ws after-g
+  from-g found x = record { found = false; cut = comes-on x (synced-frame found g after-g (sg .full) (sg .has-sync)) }
+
+  from-f : {m : OwnMode} {ws : List Word} (found : Bool) → Comes m ws (beginning found) (f ++ after-f) → InStep m ws after-g
+  from-f found x = from-g false (comes-on x (synced-frame found f after-f (sf .full) (sf .has-sync)))
+
+  -- the words p of a frame stand before f
+  module _ (p : List Word) (some : 0 < length p) (few : length p < 128) where
+    abbrev k : ℕ
+    k = 128 - length p
+
+    -- what is left of f, and of g, where 128 words are cut off
+    abbrev v₀ : List Word
+    v₀ = drop k f
+
+    abbrev v₁ : List Word
+    v₁ = drop k g
+
+    -- a frame is cut across f and g: it has no sync, and the hunt finds h
+    across : Comes places (v₀ ++ after-f) finds after-g
+    across =
+        let left : length v₀ ≡ length p = omega (arith, length-drop k f, sf .full) in
+        let full : length (v₀ ++ take k g) ≡ 128 = shifted-length k v₀ g (sg .full) (omega arith) in
+        let none : synced (v₀ ++ take k g) ≡ false =
+        not-synced v₀ g k (omega arith) (clear-left k f (omega arith) (sf .conforms)) (sg .full) (sg .has-sync) (omega arith) in
+        let wrong : LaidOut places ((v₀ ++ take k g) ++ (v₁ ++ after-g)) ((v₀ ++ take k g) ∷ []) 0 seeks (v₁ ++ after-g) =
+        rw (unsynced-class (v₀ ++ take k g) none) at (any-frame false (v₀ ++ take k g) (v₁ ++ after-g) full) in
+        let found = comes (hunt-finds v₁ h ys (clear-left k g (omega arith) (sg .conforms)) lh sh plain) in
+        rw (shifted k v₀ g after-g) (comes-on (comes wrong) found)
+
+    misplaced : (found : Bool) → InStep (beginning found) (p ++ (f ++ after-f)) after-g
+    misplaced found = by-class (frameClass (p ++ take k f)) refl
+      where
+        first : Comes (beginning found) (p ++ (f ++ after-f)) (ownMode (modeAfter (frameClass (p ++ take k f)))) (v₀ ++ after-f)
+        first = rw (shifted k p f after-f) (comes (any-frame found (p ++ take k f) (v₀ ++ after-f) (shifted-length k p f (sf .full) (omega arith))))
+
+        by-class : (c : FrameClass) → frameClass (p ++ take k f) ≡ c → InStep (beginning found) (p ++ (f ++ after-f)) after-g
+        by-class Good e = record { found = true; cut = comes-on (rw e at first) across }
+        by-class Damaged e = record { found = true; cut = comes-on (rw e at first) across }
+        by-class Unsynced e =
+            let hunt = hunt-finds v₀ g after-g (clear-left k f (omega arith) (sf .conforms)) (sg .full) (sg .has-sync) (sg .conforms .after-sync) in
+            from-g true (comes-on (rw e at first) (comes hunt))
+
+  -- from where any words leave the cut
+  in-step : (s : Stage) (p : List Word) → Settled s → Kept s p → InStep (ownModeAt s) (p ++ (f ++ after-f)) after-g
+  in-step in-hunt p settled q = from-f true (comes (hunt-finds p f after-f q (sf .full) (sf .has-sync) (sf .conforms .after-sync)))
+  in-step at-lock p settled q = from-f false (comes (hunt-behind p f after-f q (sf .full) (sf .has-sync)))
+  in-step (in-frame found) [] settled q = from-f found (comes (laid [] refl))
+  in-step (in-frame found) (x ∷ p) settled q = misplaced (x ∷ p) (omega arith) (q .0) found
+  in-step led-in p settled q = absurd settled
+
+  after-any : (d : List Word) → InStep seeks (d ++ (f ++ after-f)) after-g
+  after-any d =
+      let r = reached d in
+      let upto : LaidOut seeks (d ++ (f ++ after-f)) (framesHeld (r .beside .own)) (foundIn (r .beside .own)) (ownModeAt (r .stage)) (r .rest ++ (f ++ after-f)) =
+      laid (r .beside .own) (r .beside .own-cut .goes-on (f ++ after-f)) in
+      let x = in-step (r .stage) (r .rest) (r .settled) (r .beside .kept) in
+      record { found = x .found; cut = comes-on (comes upto) (x .cut) }
+
+-- ---- whole major frames, and any words behind them
+
+module _ (m : List (List Word)) (ms : List (List (List Word))) (e : List Word) (w : AllWhole (m ∷ ms)) where
+  abbrev reel : List Word
+  reel = wordsIn (m ∷ ms) ++ e
+
+  abbrev all-frames : List (List Word)
+  all-frames = concatMap (λ m. m) (m ∷ ms)
+
+  first : First m (wordsIn ms ++ e)
+  first = first-frame m (wordsIn ms ++ e) (w .0) (w .1)
+
+  abbrev behind-first : List Word
+  behind-first = concatMap (λ f. f) (first .fs) ++ (wordsIn ms ++ e)
+
+  begins-is : reel ≡ first .f ++ behind-first
+  begins-is = append-assoc (concatMap (λ (f : List Word). f) m) (wordsIn ms) e ∙ first .is
+
+  whole-cut : (found : Bool) → framesHeld (owns (beginning found) reel) ≡ all-frames ++ framesHeld (owns places e)
+  whole-cut found =
+      let x = then (major-cut found m (wordsIn ms ++ e) (omega (arith, w .0)) (w .1)) (good-majors ms e (w .2)) in
+      ap (λ (l : List Word). framesHeld (owns (beginning found) l)) (append-assoc (concatMap (λ (f : List Word). f) m) (wordsIn ms) e) ∙ x .frames-are
+
+  -- each is one run, whatever follows
+  all-majors : (fs : List (List Word)) → majors (all-frames ++ fs) ≡ (m ∷ ms) ++ majors fs
+  all-majors fs = runs-cut (m ∷ ms) w .majors-are
+    where
+      chain : (n : ℕ) (fs : List (List Word)) → WholeFrom n fs → Chain n fs
+      chain n [] w = tt
+      chain n (f ∷ fs) w = (w .1, chain (suc n) fs (w .2))
+
+      runs-cut : (ms : List (List (List Word))) → AllWhole ms → Cuts (concatMap (λ m. m) ms ++ fs) (concatMap (ifAny major) ms) ms fs
+      runs-cut [] w = record { runs-are = refl; majors-are = refl }
+      runs-cut (m ∷ ms) w =
+          rw append-assoc (cuts-both (cuts-major m (concatMap (λ m. m) ms ++ fs) (chain 0 m (w .1)) (w .0)) (runs-cut ms (w .2)))
+
+  -- the cut comes to them
+  module _ (ws : List Word) (found : Bool) (x : Comes seeks ws (beginning found) reel) where
+    frames-are : ownFrames ws ≡ x .frames ++ (all-frames ++ framesHeld (owns places e))
+    frames-are = own-frames ws ∙ x .cut .frames-are ∙ ap (λ (l : List (List Word)). x .frames ++ l) (whole-cut found)
+
+    majors-are : (before : List (List (List Word))) × (majors (ownFrames ws) ≡ before ++ ((m ∷ ms) ++ majors (framesHeld (owns places e))))
+    majors-are =
+        let later = later-majors (x .frames) (all-frames ++ framesHeld (owns places e)) in
+        (later .0, ap majors frames-are ∙ later .1 ∙ ap (λ (l : List (List (List Word))). later .0 ++ l) (all-majors (framesHeld (owns places e))))
+
+  majors-first : (ws : List Word) (found : Bool) {k : ℕ} → LaidOut seeks ws [] k (beginning found) reel
+      → majors (ownFrames ws) ≡ (m ∷ ms) ++ majors (framesHeld (owns places e))
+  majors-first ws found x = ap majors (own-frames ws ∙ x .frames-are ∙ whole-cut found) ∙ all-majors (framesHeld (owns places e))
+
+-- ---- the claim
+
+found-lead-in : Found sync
+unfolding synced
+found-lead-in = record { q = []; is = refl; first = λ ys. refl; ends = λ ys. refl }
+
+abbrev asBytes : List (List (List Word)) → List (List ℕ)
+asBytes ms = bytesIn ms
+
+both : (ms ns : List (List (List Word))) → asBytes (ms ++ ns) ≡ asBytes ms ++ asBytes ns
+both ms ns = map-append (concatMap values) ms ns
+
+pub around-damage : {rule : ℕ} {a₀ bs : List ℕ} {cs : List Call} {t : Tally} {a : List ℕ} {n : ℕ} → OwnOnce rule a₀ bs cs t a n
+    → AroundDamage (ruleVote rule) bs cs
+around-damage o = record {
+  between = λ d f g m ms e is sf sg w plain.
+      let i = first m ms e w in
+      let here = rw (i .first-is) at plain in
+      let x = after-any f g (i .f) (behind-first m ms e w) sf sg (i .full) (i .has-sync) here d in
+      let y = majors-are m ms e w _ (x .found) (rw (← begins-is m ms e w) at (x .cut)) in
+      let rest = majors (framesHeld (owns places e)) in
+      (asBytes (y .0), asBytes rest, o .paid-is ∙ rw is (ap asBytes (y .1)) ∙ both (y .0) ((m ∷ ms) ++ rest)
+      ∙ ap (λ (l : List (List ℕ)). asBytes (y .0) ++ l) (both (m ∷ ms) rest));
+  led = λ m ms e is w.
+      let i = first m ms e w in
+      let x = rw (← begins-is m ms e w) at (hunt-behind sync (i .f) (behind-first m ms e w) found-lead-in (i .full) (i .has-sync)) in
+      let rest = majors (framesHeld (owns places e)) in
+      (asBytes rest, o .paid-is ∙ rw is (ap asBytes (majors-first m ms e w _ false x)) ∙ both (m ∷ ms) rest);
+  begun = λ q m ms e is clear w plain.
+      let i = first m ms e w in
+      let here = rw (i .first-is) at plain in
+      let x = rw (← begins-is m ms e w) at (hunt-finds q (i .f) (behind-first m ms e w) clear (i .full) (i .has-sync) here) in
+      let rest = majors (framesHeld (owns places e)) in
+      (asBytes rest, o .paid-is ∙ rw is (ap asBytes (majors-first m ms e w _ true x)) ∙ both (m ∷ ms) rest);
+}
