@@ -155,8 +155,15 @@ module _ (rule : ℕ) (a₀ : List ℕ) where
         let whole : words vote (xs ++ (four ++ rest)) ≡ (words vote xs ++ w ∷ []) ++ words vote rest =
         none-open (four ++ rest) ∙ sym (append-assoc (words vote xs) (w ∷ []) (words vote rest)) in
         let no-more : ownFound (words vote ((xs ++ four) ++ rest)) ≡ ownFound (words vote (xs ++ four)) =
-        omega (arith, ap (λ (l : List ℕ). ownFound (words vote l)) (append-assoc xs four rest), ap ownFound at-four, ap ownFound whole, f, more,
-          found-more (words vote xs ++ w ∷ []) (words vote rest)) in
+        omega (
+          arith,
+          ap (λ (l : List ℕ). ownFound (words vote l)) (append-assoc xs four rest),
+          ap ownFound at-four,
+          ap ownFound whole,
+          f,
+          more,
+          found-more (words vote xs ++ w ∷ []) (words vote rest),
+        ) in
         ap (leadIns vote) (sym (append-assoc xs four rest)) ∙ unmarked vote (xs ++ four) rest no-more
         ∙ ap (λ (l : List Bool). l ++ nowhere rest) now ∙ append-assoc (leadIns vote xs) (atFirst true four) (nowhere rest)
 
@@ -198,8 +205,12 @@ module _ (rule : ℕ) (a₀ : List ℕ) where
         let d = afterLeadIn c in
         let part = taken-prefix d f in
         let some : words vote (take (answer (toLock d) .taken) (c .piece)) ≡ [] → ⊥ =
-        λ none. absurd (omega (arith, one-found, ap ownFound (none-open y ∙ ap (λ (l : List Word). words vote xs ++ l) (ap (words vote) part ∙ none)
-        ∙ append-nil (words vote xs)))) in
+        λ none. absurd (omega (
+          arith,
+          one-found,
+          ap ownFound (none-open y ∙ ap (λ (l : List Word). words vote xs ++ l) (ap (words vote) part ∙ none)
+              ∙ append-nil (words vote xs)),
+        )) in
         rw part (other-part (answer (toLock d) .taken) (rw (i .rule-is) at o) some)
 
     finds : (w : Word) → isWord 0xfa w ≡ false → ownFound (words vote xs) < ownFound (words vote xs ++ w ∷ [])
@@ -244,7 +255,7 @@ module _ (rule : ℕ) (is-rule : isRule rule ≡ true) {a₀ : List ℕ} (whole 
       record {
         stamped-is = all;
         joined-is = joined-stamped 0 cs ∙ ap bytesOf all ∙ inserted-bytes (leadIns (ruleVote rule) bs) (ownStamped 0 h)
-        ∙ ap (inserted (λ b. leadInBytes) (leadIns (ruleVote rule) bs)) (own-bytes 0 h);
+            ∙ ap (inserted (λ b. leadInBytes) (leadIns (ruleVote rule) bs)) (own-bytes 0 h);
         stands = rw (zero-add n) at (took-all rule a₀ h [] [] 0 begun .stands);
         own = own-once rule a₀ is-rule whole h;
       }

@@ -172,32 +172,55 @@ found-lead-in : Found sync
 unfolding synced
 found-lead-in = record { q = []; is = refl; first = λ ys. refl; ends = λ ys. refl }
 
-abbrev asBytes : List (List (List Word)) → List (List ℕ)
-asBytes ms = bytesIn ms
+-- the bytes of major frames in two and three parts
+bytes-both : (ms ns : List (List (List Word))) → bytesIn (ms ++ ns) ≡ bytesIn ms ++ bytesIn ns
+bytes-both ms ns = map-append (concatMap values) ms ns
 
-both : (ms ns : List (List (List Word))) → asBytes (ms ++ ns) ≡ asBytes ms ++ asBytes ns
-both ms ns = map-append (concatMap values) ms ns
+bytes-parts : (ls ms ns : List (List (List Word))) → bytesIn (ls ++ (ms ++ ns)) ≡ bytesIn ls ++ (bytesIn ms ++ bytesIn ns)
+bytes-parts ls ms ns = bytes-both ls (ms ++ ns) ∙ ap (λ (l : List (List ℕ)). bytesIn ls ++ l) (bytes-both ms ns)
+
+-- the major frames of words, as their bytes
+abbrev paidOf : List Word → List (List ℕ)
+paidOf ws = bytesIn (majors (ownFrames ws))
+
+module _ (m : List (List Word)) (ms : List (List (List Word))) (e : List Word) (w : AllWhole (m ∷ ms)) where
+  abbrev i : First m (wordsIn ms ++ e)
+  i = first m ms e w
+
+  -- those of the words behind them
+  abbrev rest : List (List (List Word))
+  rest = majors (framesHeld (owns places e))
+
+  -- they are paid in order, behind others
+  paid-later : (ws : List Word) → (before : List (List (List Word))) × (majors (ownFrames ws) ≡ before ++ ((m ∷ ms) ++ rest))
+      → (before : List (List ℕ)) × (paidOf ws ≡ before ++ (bytesIn (m ∷ ms) ++ bytesIn rest))
+  paid-later ws y = (bytesIn (y .0), ap bytesIn (y .1) ∙ bytes-parts (y .0) (m ∷ ms) rest)
+
+  paid-between : (d f g : List Word) → Standing f → Standing g → PlainAfterSync (getD m 0 [])
+      → (before : List (List ℕ)) × (paidOf (d ++ (f ++ (g ++ reel m ms e w))) ≡ before ++ (bytesIn (m ∷ ms) ++ bytesIn rest))
+  paid-between d f g sf sg plain =
+      let x = after-any f g (i .f) (behind-first m ms e w) sf sg (i .full) (i .has-sync) (rw (i .first-is) at plain) d in
+      let all = d ++ (f ++ (g ++ reel m ms e w)) in
+      paid-later all (majors-are m ms e w all (x .found) (rw (begins-is m ms e w) (x .cut)))
+
+  paid-led : paidOf (sync ++ reel m ms e w) ≡ bytesIn (m ∷ ms) ++ bytesIn rest
+  paid-led =
+      let x : LaidOut seeks (sync ++ reel m ms e w) [] 0 places (reel m ms e w) =
+      rw (begins-is m ms e w) (hunt-behind sync (i .f) (behind-first m ms e w) found-lead-in (i .full) (i .has-sync)) in
+      ap bytesIn (majors-first m ms e w (sync ++ reel m ms e w) false x) ∙ bytes-both (m ∷ ms) rest
+
+  paid-begun : (q : List Word) → beforeSync q ≡ length q → PlainAfterSync (getD m 0 []) → paidOf (q ++ reel m ms e w) ≡ bytesIn (m ∷ ms) ++ bytesIn rest
+  paid-begun q clear plain =
+      let x : LaidOut seeks (q ++ reel m ms e w) [] 0 finds (reel m ms e w) =
+      rw (begins-is m ms e w) (hunt-finds q (i .f) (behind-first m ms e w) clear (i .full) (i .has-sync) (rw (i .first-is) at plain)) in
+      ap bytesIn (majors-first m ms e w (q ++ reel m ms e w) true x) ∙ bytes-both (m ∷ ms) rest
 
 pub around-damage : {rule : ℕ} {a₀ bs : List ℕ} {cs : List Call} {t : Tally} {a : List ℕ} {n : ℕ} → OwnOnce rule a₀ bs cs t a n
     → AroundDamage (ruleVote rule) bs cs
 around-damage o = record {
   between = λ d f g m ms e is sf sg w plain.
-      let i = first m ms e w in
-      let here = rw (i .first-is) at plain in
-      let x = after-any f g (i .f) (behind-first m ms e w) sf sg (i .full) (i .has-sync) here d in
-      let y = majors-are m ms e w _ (x .found) (rw (← begins-is m ms e w) at (x .cut)) in
-      let rest = majors (framesHeld (owns places e)) in
-      (asBytes (y .0), asBytes rest, o .paid-is ∙ rw is (ap asBytes (y .1)) ∙ both (y .0) ((m ∷ ms) ++ rest)
-      ∙ ap (λ (l : List (List ℕ)). asBytes (y .0) ++ l) (both (m ∷ ms) rest));
-  led = λ m ms e is w.
-      let i = first m ms e w in
-      let x = rw (← begins-is m ms e w) at (hunt-behind sync (i .f) (behind-first m ms e w) found-lead-in (i .full) (i .has-sync)) in
-      let rest = majors (framesHeld (owns places e)) in
-      (asBytes rest, o .paid-is ∙ rw is (ap asBytes (majors-first m ms e w _ false x)) ∙ both (m ∷ ms) rest);
-  begun = λ q m ms e is clear w plain.
-      let i = first m ms e w in
-      let here = rw (i .first-is) at plain in
-      let x = rw (← begins-is m ms e w) at (hunt-finds q (i .f) (behind-first m ms e w) clear (i .full) (i .has-sync) here) in
-      let rest = majors (framesHeld (owns places e)) in
-      (asBytes rest, o .paid-is ∙ rw is (ap asBytes (majors-first m ms e w _ true x)) ∙ both (m ∷ ms) rest);
+      let x = paid-between m ms e w d f g sf sg plain in
+      (x .0, bytesIn (rest m ms e w), o .paid-is ∙ ap paidOf is ∙ x .1);
+  led = λ m ms e is w. (bytesIn (rest m ms e w), o .paid-is ∙ ap paidOf is ∙ paid-led m ms e w);
+  begun = λ q m ms e is clear w plain. (bytesIn (rest m ms e w), o .paid-is ∙ ap paidOf is ∙ paid-begun m ms e w q clear plain);
 }

@@ -2,3 +2,4 @@ pub mod Finding
 pub mod Marks
 pub mod AnyCut
 pub mod Damage
+pub mod Written

@@ -1,3 +1,4 @@
 pub mod HandedIn
 pub mod AnyCut
 pub mod Damage
+pub mod Written
