@@ -1,7 +1,7 @@
 -- Two minor frames bring the cut back into step: a hunt finds the first of them, or the frame under way ends in the first; then, where it closes with a sync,
 -- one more is cut wrong, which has none, and a hunt finds the third. Whole major frames behind them are cut as they are, whatever follows. Assumes nothing.
 use mathlib.Core.Path.{_≡_, refl, sym, ap, _∙_}
-use mathlib.Core.Bool.{Bool, true, false, cond}
+use mathlib.Core.Bool.{Bool, true, false}
 use mathlib.Core.List.{List, [], _∷_, _++_, map-append, append-assoc, append-nil}
 use Prim.Native.Nat.{ℕ, suc, _+_, _-_, _<_}
 use native.Mathlib.Omega.{arith}
@@ -12,7 +12,7 @@ use Rattle.labelling.specs.declared.FrameClass.the-variants.{Good, Damaged, Uns
 use Rattle.labelling.specs.declared.Word.{Word}
 use Rattle.labelling.specs.Words.{words}
 use Rattle.labelling.specs.Votes.{ruleVote}
-use Rattle.labelling.specs.MinorFrames.{synced, anyErased, frameClass, modeAfter, placing}
+use Rattle.labelling.specs.MinorFrames.{synced, frameClass, modeAfter}
 use Rattle.labelling.specs.MajorFrames.{values, majors, major}
 use Rattle.labelling.specs.Calls.{Call}
 use Rattle.labelling.specs.declared.Tally.{Tally}
@@ -27,20 +27,8 @@ use Rattle.own_sync.proofs.OwnHunt.{Found}
 use Rattle.own_sync.proofs.Recovery.{LaidOut, then, laid, any-frame, good-majors, hunt-finds, hunt-behind, major-cut, First, first-frame}
 use Rattle.own_sync.proofs.Recovery.{Comes, comes, comes-on, later-majors, unsynced-class, not-synced, shifted, shifted-length, clear-left}
 use Rattle.own_reels.specs.Damage.{Standing, AroundDamage}
-
--- ---- a frame with its sync
-
--- behind it the next begins
-next-begins : (f : List Word) → synced f ≡ true → ownMode (modeAfter (frameClass f)) ≡ places
-unfolding frameClass
-next-begins f s = rw s (go (anyErased f))
-  where
-    go : (e : Bool) → ownMode (modeAfter (cond e Damaged Good)) ≡ places
-    go true = refl
-    go false = refl
-
-synced-frame : (found : Bool) (f ys : List Word) → length f ≡ 128 → synced f ≡ true → Comes (beginning found) (f ++ ys) places ys
-synced-frame found f ys l s = rw (next-begins f s) at (comes (any-frame found f ys l))
+use Rattle.own_reels.proofs.SyncedFrame.{synced-frame}
+use Rattle.own_reels.proofs.OneTooFew.{one-too-few}
 
 -- ---- two of them
 
@@ -223,4 +211,8 @@ around-damage o = record {
       (x .0, bytesIn (rest m ms e w), o .paid-is ∙ ap paidOf is ∙ x .1);
   led = λ m ms e is w. (bytesIn (rest m ms e w), o .paid-is ∙ ap paidOf is ∙ paid-led m ms e w);
   begun = λ q m ms e is clear w plain. (bytesIn (rest m ms e w), o .paid-is ∙ ap paidOf is ∙ paid-begun m ms e w q clear plain);
+  one-too-few = λ v f m plain sf w conform is.
+      let ws = concatMap (λ (f : List Word). f) m in
+      o .paid-is ∙ ap paidOf (is ∙ ap (λ (l : List Word). (sync ++ v ∷ []) ++ (f ++ l)) (append-nil ws))
+      ∙ ap bytesIn (one-too-few v f plain sf m (w .0) (w .1) conform);
 }

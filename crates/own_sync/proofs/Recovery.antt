@@ -28,7 +28,7 @@ use Rattle.own_sync.proofs.OwnHunt.{one-short, is-sync, before-none, be
 -- ---- a whole frame
 
 -- its class and its first words
-numbered-good : (n : ℕ) (f : List Word) → numbered n f ≡ true → frameClass f ≡ Good
+pub numbered-good : (n : ℕ) (f : List Word) → numbered n f ≡ true → frameClass f ≡ Good
 unfolding numbered isGood
 numbered-good n f e = go (frameClass f) (eqb (number f) n) (ltb n 128) e
   where
@@ -37,7 +37,7 @@ numbered-good n f e = go (frameClass f) (eqb (number f) n) (ltb n 128) e
     go Damaged b c e = cc
     go Unsynced b c e = cc
 
-good-synced : (f : List Word) → frameClass f ≡ Good → synced f ≡ true
+pub good-synced : (f : List Word) → frameClass f ≡ Good → synced f ≡ true
 unfolding frameClass
 good-synced f e = go (synced f) (anyErased f) e
   where
@@ -85,12 +85,12 @@ any-frame found f ys l = record {
   found-are = ap foundIn (own-frame-closes found f ys l);
 }
 
-good-frame : (n : ℕ) (found : Bool) (f ys : List Word) → length f ≡ 128 → numbered n f ≡ true
+pub good-frame : (n : ℕ) (found : Bool) (f ys : List Word) → length f ≡ 128 → numbered n f ≡ true
     → LaidOut (beginning found) (f ++ ys) (f ∷ []) (one found) places ys
 good-frame n found f ys l e = rw (numbered-good n f e) at (any-frame found f ys l)
 
 -- whole frames, cut where they lie
-good-frames : (n : ℕ) (fs : List (List Word)) (ys : List Word) → WholeFrom n fs → LaidOut places (concatMap (λ f. f) fs ++ ys) fs 0 places ys
+pub good-frames : (n : ℕ) (fs : List (List Word)) (ys : List Word) → WholeFrom n fs → LaidOut places (concatMap (λ f. f) fs ++ ys) fs 0 places ys
 good-frames n [] ys w = record { frames-are = refl; found-are = omega arith }
 good-frames n (f ∷ fs) ys w =
     rw append-assoc (then (good-frame n false f (concatMap (λ (f : List Word). f) fs ++ ys) (w .0) (w .1)) (good-frames (suc n) fs ys (w .2)))
