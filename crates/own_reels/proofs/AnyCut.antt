@@ -57,8 +57,8 @@ unstamped k (b ∷ l) = ap (λ (r : List ℕ). b ∷ r) (unstamped k l)
 inserted-bytes : (ms : List Bool) (xs : List (ℕ × ℕ)) → bytesOf (inserted leadStamped ms xs) ≡ inserted (λ b. leadInBytes) ms (bytesOf xs)
 inserted-bytes [] xs = refl
 inserted-bytes (m ∷ ms) [] = refl
-inserted-bytes (true ∷ ms) (x ∷ xs) = ap (λ (l : List ℕ). leadInBytes ++ (x .0 ∷ l)) (inserted-bytes ms xs)
-inserted-bytes (false ∷ ms) (x ∷ xs) = ap (λ (l : List ℕ). x .0 ∷ l) (inserted-bytes ms xs)
+inserted-bytes (true ∷ ms) (x ∷ xs) = rw (inserted-bytes ms xs)
+inserted-bytes (false ∷ ms) (x ∷ xs) = rw (inserted-bytes ms xs)
 
 -- the reel's bytes are those of the reel
 own-bytes : {w w′ : Bool} {t t′ : Tally} {a a′ bs : List ℕ} {cs : List Call} {n : ℕ} (k : ℕ) (h : Relocked w t a bs cs w′ t′ a′ n)

@@ -3,29 +3,25 @@
 use mathlib.Core.Path.{_≡_, refl, sym, ap, _∙_}
 use mathlib.Core.Bool.{Bool, true, false}
 use mathlib.Core.List.{List, [], _∷_, _++_, map-append, append-assoc, append-nil}
-use Prim.Native.Nat.{ℕ, suc, _+_, _-_, _<_}
+use Prim.Native.Nat.{ℕ, _-_, _<_}
 use native.Mathlib.Omega.{arith}
 use lib.ListN.{length, getD, take, drop, length-drop}
-use Rattle.base.specs.Lists.{concatMap, one}
+use Rattle.base.specs.Lists.{concatMap}
 use Rattle.labelling.specs.declared.FrameClass.{FrameClass}
 use Rattle.labelling.specs.declared.FrameClass.the-variants.{Good, Damaged, Unsynced}
+use Rattle.labelling.specs.declared.Tally.{Tally}
 use Rattle.labelling.specs.declared.Word.{Word}
-use Rattle.labelling.specs.Words.{words}
 use Rattle.labelling.specs.Votes.{ruleVote}
 use Rattle.labelling.specs.MinorFrames.{synced, frameClass, modeAfter}
-use Rattle.labelling.specs.MajorFrames.{values, majors, major}
+use Rattle.labelling.specs.MajorFrames.{values, majors}
 use Rattle.labelling.specs.Calls.{Call}
-use Rattle.labelling.specs.declared.Tally.{Tally}
-use Rattle.labelling.proofs.IfAny.{ifAny}
-use Rattle.labelling.proofs.RunCuts.{Chain, Cuts, cuts-both, cuts-major}
 use Rattle.own_sync.specs.OwnCut.{beforeSync, OwnMode, seeks, places, finds, ownMode, ownFrames}
-use Rattle.own_sync.specs.Recovery.{WholeFrom, AllWhole, wordsIn, bytesIn, PlainAfterSync}
+use Rattle.own_sync.specs.Recovery.{AllWhole, wordsIn, bytesIn, PlainAfterSync}
 use Rattle.own_sync.specs.OwnOnce.{OwnOnce}
 use Rattle.own_sync.proofs.OwnCuts.{owns, framesHeld, own-frames, foundIn, beginning, sync}
-use Rattle.own_sync.proofs.Beside.{Stage, in-hunt, in-frame, at-lock, led-in, ownModeAt, Kept, Settled, Reached, reached}
-use Rattle.own_sync.proofs.OwnHunt.{Found}
-use Rattle.own_sync.proofs.Recovery.{LaidOut, then, laid, any-frame, good-majors, hunt-finds, hunt-behind, major-cut, First, first-frame}
-use Rattle.own_sync.proofs.Recovery.{Comes, comes, comes-on, later-majors, unsynced-class, not-synced, shifted, shifted-length, clear-left}
+use Rattle.own_sync.proofs.Beside.{Stage, in-hunt, in-frame, at-lock, led-in, ownModeAt, Kept, Settled, reached}
+use Rattle.own_sync.proofs.Recovery.{LaidOut, then, laid, any-frame, good-majors, hunt-finds, hunt-behind, major-cut, majors-then, First}
+use Rattle.own_sync.proofs.Recovery.{first-frame, found-lead-in, Comes, comes, comes-on, later-majors, unsynced-class, not-synced, shifted, shifted-length, clear-left}
 use Rattle.own_reels.specs.Damage.{Standing, AroundDamage}
 use Rattle.own_reels.proofs.SyncedFrame.{synced-frame}
 use Rattle.own_reels.proofs.OneTooFew.{one-too-few}
@@ -127,19 +123,6 @@ module _ (m : List (List Word)) (ms : List (List (List Word))) (e : List Word) (
       let x = then (major-cut found m (wordsIn ms ++ e) (omega (arith, w .0)) (w .1)) (good-majors ms e (w .2)) in
       ap (λ (l : List Word). framesHeld (owns (beginning found) l)) (append-assoc (concatMap (λ (f : List Word). f) m) (wordsIn ms) e) ∙ x .frames-are
 
-  -- each is one run, whatever follows
-  all-majors : (fs : List (List Word)) → majors (all-frames ++ fs) ≡ (m ∷ ms) ++ majors fs
-  all-majors fs = runs-cut (m ∷ ms) w .majors-are
-    where
-      chain : (n : ℕ) (fs : List (List Word)) → WholeFrom n fs → Chain n fs
-      chain n [] w = tt
-      chain n (f ∷ fs) w = (w .1, chain (suc n) fs (w .2))
-
-      runs-cut : (ms : List (List (List Word))) → AllWhole ms → Cuts (concatMap (λ m. m) ms ++ fs) (concatMap (ifAny major) ms) ms fs
-      runs-cut [] w = record { runs-are = refl; majors-are = refl }
-      runs-cut (m ∷ ms) w =
-          rw append-assoc (cuts-both (cuts-major m (concatMap (λ m. m) ms ++ fs) (chain 0 m (w .1)) (w .0)) (runs-cut ms (w .2)))
-
   -- the cut comes to them
   module _ (ws : List Word) (found : Bool) (x : Comes seeks ws (beginning found) reel) where
     frames-are : ownFrames ws ≡ x .frames ++ (all-frames ++ framesHeld (owns places e))
@@ -148,17 +131,13 @@ module _ (m : List (List Word)) (ms : List (List (List Word))) (e : List Word) (
     majors-are : (before : List (List (List Word))) × (majors (ownFrames ws) ≡ before ++ ((m ∷ ms) ++ majors (framesHeld (owns places e))))
     majors-are =
         let later = later-majors (x .frames) (all-frames ++ framesHeld (owns places e)) in
-        (later .0, ap majors frames-are ∙ later .1 ∙ ap (λ (l : List (List (List Word))). later .0 ++ l) (all-majors (framesHeld (owns places e))))
+        (later .0, ap majors frames-are ∙ later .1 ∙ ap (λ (l : List (List (List Word))). later .0 ++ l) (majors-then (m ∷ ms) (framesHeld (owns places e)) w))
 
   majors-first : (ws : List Word) (found : Bool) {k : ℕ} → LaidOut seeks ws [] k (beginning found) reel
       → majors (ownFrames ws) ≡ (m ∷ ms) ++ majors (framesHeld (owns places e))
-  majors-first ws found x = ap majors (own-frames ws ∙ x .frames-are ∙ whole-cut found) ∙ all-majors (framesHeld (owns places e))
+  majors-first ws found x = ap majors (own-frames ws ∙ x .frames-are ∙ whole-cut found) ∙ majors-then (m ∷ ms) (framesHeld (owns places e)) w
 
 -- ---- the claim
-
-found-lead-in : Found sync
-unfolding synced
-found-lead-in = record { q = []; is = refl; first = λ ys. refl; ends = λ ys. refl }
 
 -- the bytes of major frames in two and three parts
 bytes-both : (ms ns : List (List (List Word))) → bytesIn (ms ++ ns) ≡ bytesIn ms ++ bytesIn ns

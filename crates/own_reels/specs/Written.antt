@@ -1,12 +1,12 @@
 -- Reels that the writer made (01, "The writer"), read by their frames' own sync. With its lead-in such a reel is read as 01 reads it, and no lead-in is handed;
--- without it, begun at any byte of a minor frame, its whole major frames are paid as exactly those. Definitions only.
+-- without it, begun anywhere in a minor frame, its whole major frames are paid as exactly those. Definitions only.
 use mathlib.Core.Path.{_≡_}
-use mathlib.Core.Bool.{Bool, true, false}
+use mathlib.Core.Bool.{Bool, false}
 use mathlib.Core.List.{List, [], _∷_, _++_, map}
 use Prim.Native.Nat.{ℕ}
 use lib.Dec.{eqb}
 use lib.ListN.{length, getD}
-use Rattle.base.specs.Format.{syncWord, majorFrame}
+use Rattle.base.specs.Format.{SYNC, syncWord}
 use Rattle.base.specs.Lists.{concatMap}
 use Rattle.labelling.specs.declared.Tally.{Tally}
 use Rattle.labelling.specs.declared.Word.the-variants.{Voted}
@@ -20,6 +20,11 @@ use Rattle.writer.specs.ReadBack.{Minor, AllWhole, written, reel, bytesOf, Read
 -- the major frames as they are written, with no lead-in
 abbrev pub unled : List (List Minor) → List ℕ
 unled mss = concatMap (λ ms. concatMap written ms) mss
+
+-- what is left of a group whose SYNC is cut off, and FILL: none of these bytes is SYNC, so that they open no group
+abbrev pub NoGroup : List ℕ → Type 0
+NoGroup [] = Unit {0}
+NoGroup (b ∷ bs) = (eqb b SYNC ≡ false) × NoGroup bs
 
 -- FA F3 20 stand nowhere in these bytes of a minor frame
 abbrev pub NoSync : List ℕ → Type 0
@@ -35,7 +40,7 @@ pub record WrittenReels (rule : ℕ) (a₀ : List ℕ) : Type 0 where
   -- a lead-in at the spacing f, then major frames, each minor frame at a spacing of its own
   pub with-lead-in : (f : ℕ) (mss : List (List Minor)) → AllWhole mss → {w : Bool} {t : Tally} {a : List ℕ} {cs : List Call} {n : ℕ}
       → Relocked false (fresh rule) a₀ (reel f mss) cs w t a n → (n ≡ 0) × (joined cs ≡ reel f mss) × ReadBack mss cs t
-  -- no lead-in; the last bytes q of a minor frame, or none, at the spacing f come first
-  pub without : (f : ℕ) (q : List ℕ) (ms : List Minor) (mss : List (List Minor)) → NoSync q → AllWhole (ms ∷ mss) → FirstPlain ms
+  -- no lead-in: what is left of a group comes first, or nothing, then the last bytes q of a minor frame, or none, at the spacing f
+  pub without : (s : List ℕ) (f : ℕ) (q : List ℕ) (ms : List Minor) (mss : List (List Minor)) → NoGroup s → NoSync q → AllWhole (ms ∷ mss) → FirstPlain ms
       → {w : Bool} {t : Tally} {a : List ℕ} {cs : List Call} {n : ℕ}
-      → Relocked false (fresh rule) a₀ (stream f q ++ unled (ms ∷ mss)) cs w t a n → (n ≡ 1) × (paid cs ≡ map bytesOf (ms ∷ mss))
+      → Relocked false (fresh rule) a₀ (s ++ (stream f q ++ unled (ms ∷ mss))) cs w t a n → (n ≡ 1) × (paid cs ≡ map bytesOf (ms ∷ mss))

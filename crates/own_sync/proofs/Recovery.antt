@@ -186,17 +186,20 @@ major-cut found (f ∷ fs) ys h w =
     record { frames-are = x .frames-are; found-are = omega (arith, x .found-are) } in
     rw append-assoc y
 
--- each major frame is one run
-all-majors : (ms : List (List (List Word))) → AllWhole ms → majors (concatMap (λ m. m) ms) ≡ ms
-all-majors ms w = runs-cut ms w .majors-are ∙ append-nil ms
+-- each major frame is one run, whatever follows
+pub majors-then : (ms : List (List (List Word))) (fs : List (List Word)) → AllWhole ms → majors (concatMap (λ m. m) ms ++ fs) ≡ ms ++ majors fs
+majors-then ms fs w = runs-cut ms w .majors-are
   where
     chain : (n : ℕ) (fs : List (List Word)) → WholeFrom n fs → Chain n fs
     chain n [] w = tt
     chain n (f ∷ fs) w = (w .1, chain (suc n) fs (w .2))
 
-    runs-cut : (ms : List (List (List Word))) → AllWhole ms → Cuts (concatMap (λ m. m) ms) (concatMap (ifAny major) ms) ms []
+    runs-cut : (ms : List (List (List Word))) → AllWhole ms → Cuts (concatMap (λ m. m) ms ++ fs) (concatMap (ifAny major) ms) ms fs
     runs-cut [] w = record { runs-are = refl; majors-are = refl }
-    runs-cut (m ∷ ms) w = cuts-both (cuts-major m (concatMap (λ m. m) ms) (chain 0 m (w .1)) (w .0)) (runs-cut ms (w .2))
+    runs-cut (m ∷ ms) w = rw append-assoc (cuts-both (cuts-major m (concatMap (λ m. m) ms ++ fs) (chain 0 m (w .1)) (w .0)) (runs-cut ms (w .2)))
+
+all-majors : (ms : List (List (List Word))) → AllWhole ms → majors (concatMap (λ m. m) ms) ≡ ms
+all-majors ms w = ap majors (sym (append-nil (concatMap (λ m. m) ms))) ∙ majors-then ms [] w ∙ append-nil ms
 
 -- ---- whole major frames, and less than a frame behind them
 
@@ -247,7 +250,7 @@ found-all : {ws : List Word} {k : ℕ} {fs : List (List Word)} → LaidOut seeks
 found-all {ws} x = own-found ws ∙ omega (arith, x .found-are)
 
 -- a lead-in is found at once
-found-lead-in : Found sync
+pub found-lead-in : Found sync
 unfolding synced
 found-lead-in = record { q = []; is = refl; first = λ ys. refl; ends = λ ys. refl }
 

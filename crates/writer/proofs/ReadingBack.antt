@@ -36,14 +36,14 @@ use Rattle.writer.specs.ReadBack.{Minor, Numbered, AllWhole, written, re
 
 -- ---- what is to be read
 
-abbrev asFrame : Minor → List Word
+abbrev pub asFrame : Minor → List Word
 asFrame m = map Voted (m .bytes)
 
-abbrev asMajor : List Minor → List (List Word)
+abbrev pub asMajor : List Minor → List (List Word)
 asMajor ms = map asFrame ms
 
 -- the words of the major frames mss, and their minor frames
-abbrev allWords : List (List Minor) → List Word
+abbrev pub allWords : List (List Minor) → List Word
 allWords mss = concatMap (concatMap asFrame) mss
 
 abbrev allFrames : List (List Minor) → List (List Word)
@@ -58,19 +58,19 @@ major-back : (ms : List Minor) → concatMap values (asMajor ms) ≡ bytesOf ms
 major-back [] = refl
 major-back (m ∷ ms) = rw (values-back (m .bytes), major-back ms)
 
-majors-back : (mss : List (List Minor)) → map (concatMap values) (map asMajor mss) ≡ map bytesOf mss
+pub majors-back : (mss : List (List Minor)) → map (concatMap values) (map asMajor mss) ≡ map bytesOf mss
 majors-back [] = refl
 majors-back (ms ∷ mss) = rw (major-back ms, majors-back mss)
 
 -- a minor frame with its sync is good, and keeps its number
-good : (m : Minor) → syncedBytes (m .bytes) ≡ true → frameClass (asFrame m) ≡ Good
+pub good : (m : Minor) → syncedBytes (m .bytes) ≡ true → frameClass (asFrame m) ≡ Good
 good m sync = class-of-bytes (asFrame m) (m .bytes) false (values-back (m .bytes)) (none-erased (m .bytes)) ∙ rw sync
   where
     none-erased : (bytes : List ℕ) → anyErased (map Voted bytes) ≡ false
     none-erased [] = refl
     none-erased (b ∷ bytes) = none-erased bytes
 
-number-back : (m : Minor) → number (asFrame m) ≡ getD (m .bytes) 65 0
+pub number-back : (m : Minor) → number (asFrame m) ≡ getD (m .bytes) 65 0
 unfolding number
 number-back m = rw (← List·getD-map value (asFrame m) 65 Erased, values-back (m .bytes))
 
@@ -145,8 +145,8 @@ module _ (rule : ℕ) (is-rule : isRule rule ≡ true) where
   -- ---- bytes to words
 
   -- the bytes xs give the words ws, have no label but fill and voted, and no weak copy
-  record Gives (xs : List ℕ) (ws : List Word) : Type 0 where
-    words-are : words vote xs ≡ ws
+  pub record Gives (xs : List ℕ) (ws : List Word) : Type 0 where
+    pub words-are : words vote xs ≡ ws
     no-other : (k : Label) → sameLabel k as-fill ≡ false → sameLabel k as-voted ≡ false → labelled vote k xs ≡ 0
     none-weak : (n : ℕ) → eqb 0 n ≡ false → weakly vote n xs ≡ 0
 
@@ -170,7 +170,7 @@ module _ (rule : ℕ) (is-rule : isRule rule ≡ true) where
     none-weak = λ n e. rw (alike b, none-named b, e) (omega (arith, r .none-weak n e));
   }
 
-  gives-stream : {xs : List ℕ} {ws : List Word} (f : ℕ) (bytes : List ℕ) → Gives xs ws → Gives (stream f bytes ++ xs) (map Voted bytes ++ ws)
+  pub gives-stream : {xs : List ℕ} {ws : List Word} (f : ℕ) (bytes : List ℕ) → Gives xs ws → Gives (stream f bytes ++ xs) (map Voted bytes ++ ws)
   unfolding stream
   gives-stream f [] r = r
   gives-stream f (b ∷ bytes) r = rw append-assoc (gives-copies b (gives-fill f (gives-stream f bytes r)))
@@ -179,7 +179,7 @@ module _ (rule : ℕ) (is-rule : isRule rule ≡ true) where
   gives-minors [] r = r
   gives-minors (m ∷ ms) r = simp append-assoc (gives-stream (m .spacing) (m .bytes) (gives-minors ms r))
 
-  gives-majors : (mss : List (List Minor)) → Gives (concatMap (concatMap written) mss) (allWords mss)
+  pub gives-majors : (mss : List (List Minor)) → Gives (concatMap (concatMap written) mss) (allWords mss)
   unfolding words labels labelled weakly
   gives-majors [] = record { words-are = refl; no-other = λ k e v. refl; none-weak = λ n e. refl }
   gives-majors (ms ∷ mss) = gives-minors ms (gives-majors mss)
@@ -187,7 +187,7 @@ module _ (rule : ℕ) (is-rule : isRule rule ≡ true) where
   -- ---- the reel
 
   module _ (f : ℕ) (mss : List (List Minor)) where
-    gives-reel : Gives (reel f mss) (map Voted leadIn ++ allWords mss)
+    pub gives-reel : Gives (reel f mss) (map Voted leadIn ++ allWords mss)
     unfolding reel
     gives-reel = gives-stream f leadIn (gives-majors mss)
 
