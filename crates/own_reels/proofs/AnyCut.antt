@@ -3,12 +3,11 @@
 use mathlib.Core.Path.{_≡_, refl, sym, ap, _∙_}
 use mathlib.Core.Bool.{Bool, true, false}
 use mathlib.Core.List.{List, [], _∷_, _++_, map, append-assoc, append-nil, map-append}
-use Prim.Native.Nat.{ℕ, zero, suc, _+_, _≤_, _<_}
+use Prim.Native.Nat.{ℕ, zero, suc, _+_, _<_}
 use native.Mathlib.Nat.{zero-add}
 use native.Mathlib.Omega.{arith}
 use lib.Dec.{eqb·suc-zero}
 use lib.ListN.{length, take}
-use lib.Seq.{length-take-le}
 use borrow.Author.Tests.{lt-ltb}
 use Rattle.base.specs.Format.{SYNC}
 use Rattle.labelling.specs.declared.Tally.{Tally}
@@ -18,21 +17,20 @@ use Rattle.labelling.specs.Votes.{ruleVote}
 use Rattle.labelling.specs.MinorFrames.{isWord}
 use Rattle.labelling.specs.Machine.{stateOf, fresh}
 use Rattle.labelling.specs.Order.{isRule}
-use Rattle.labelling.specs.Calls.{TakeCall, takeRefusal, answer, taken, DutyCall, dutyRefusal, Call, takes, changes, refusalOf, joined, paid, stamped, lastDuty}
-use Rattle.labelling.specs.Once.{Once}
+use Rattle.labelling.specs.Calls.{TakeCall, takeRefusal, answer, taken, Call, takes, changes, joined, stamped, lastDuty}
 use Rattle.labelling.proofs.Feeding.{inv-decides}
 use Rattle.labelling.proofs.CallLaws.{refused-taken, accepted-extent}
 use Rattle.labelling.proofs.Shifts.{joined-stamped}
 use Rattle.own_sync.specs.Locks.{toLock}
-use Rattle.own_sync.specs.OwnCut.{endsBehind, ownFound}
-use Rattle.own_sync.specs.Relocking.{wordsNext, awaitsAfter, locked, leadInBytes, leadIn, afterLeadIn, OtherWord, other-word}
+use Rattle.own_sync.specs.OwnCut.{ownFound}
+use Rattle.own_sync.specs.Relocking.{leadInBytes, leadIn, afterLeadIn, OtherWord, other-word}
 use Rattle.own_sync.specs.Relocking.{Relocked, done, refused, changed, takes-on, leads-in}
 use Rattle.own_sync.specs.OwnOnce.{OwnOnce}
 use Rattle.own_sync.proofs.Locks.{up-prefix, part-accepted}
 use Rattle.own_sync.proofs.OpenGroup.{four-each}
-use Rattle.own_sync.proofs.Beside.{Beside, at-lock, found-now}
-use Rattle.own_sync.proofs.Relocking.{Stands, Took, stands-changed, stands-on, awaiting, lead-is, stands-led, took-all, start-stands, own-once}
-use Rattle.own_reels.specs.HandedIn.{awaitsWord, nowhere, atFirst, leadIns, inserted, handedIn}
+use Rattle.own_sync.proofs.Beside.{found-now}
+use Rattle.own_sync.proofs.Relocking.{Stands, stands-changed, stands-on, awaiting, lead-is, stands-led, took-all, start-stands, own-once}
+use Rattle.own_reels.specs.HandedIn.{nowhere, atFirst, leadIns, inserted, handedIn}
 use Rattle.own_reels.specs.AnyCut.{ownStamped, NoneNamed, SameLeft, AnyCut}
 use Rattle.own_reels.proofs.Finding.{found-at-lock, found-more, awaits-now}
 use Rattle.own_reels.proofs.Marks.{inserted-none, unmarked, marked}
@@ -127,7 +125,8 @@ module _ (rule : ℕ) (a₀ : List ℕ) where
   led-none xs = record { marks = []; marks-are = rw (append-nil xs) (sym (append-nil (leadIns vote xs))); all-is = refl }
 
   -- bytes with these marks, and then others
-  marks-on : (xs ys bs : List ℕ) (ms ns : List Bool) → leadIns vote (xs ++ ys) ≡ leadIns vote xs ++ ms → leadIns vote ((xs ++ ys) ++ bs) ≡ leadIns vote (xs ++ ys) ++ ns
+  marks-on : (xs ys bs : List ℕ) (ms ns : List Bool) → leadIns vote (xs ++ ys) ≡ leadIns vote xs ++ ms
+      → leadIns vote ((xs ++ ys) ++ bs) ≡ leadIns vote (xs ++ ys) ++ ns
       → leadIns vote (xs ++ (ys ++ bs)) ≡ leadIns vote xs ++ (ms ++ ns)
   marks-on xs ys bs ms ns e f =
       ap (leadIns vote) (sym (append-assoc xs ys bs)) ∙ f ∙ ap (λ (l : List Bool). l ++ ns) e ∙ append-assoc (leadIns vote xs) ms ns
@@ -177,7 +176,8 @@ module _ (rule : ℕ) (a₀ : List ℕ) where
     }
       where
         before : {ys : List ℕ} → OtherWord vote ys
-            → onDuty k leadInBytes ++ (onDuty k ys ++ inserted leadStamped (r .marks) own) ≡ inserted leadStamped (atFirst true ys ++ r .marks) (onDuty k ys ++ own)
+            → onDuty k leadInBytes ++ (onDuty k ys ++ inserted leadStamped (r .marks) own)
+            ≡ inserted leadStamped (atFirst true ys ++ r .marks) (onDuty k ys ++ own)
         before (other-word {rest} x y z e) =
             ap (λ (l : List (ℕ × ℕ)). onDuty k leadInBytes ++ ((SYNC, k) ∷ l))
             (sym (inserted-none leadStamped (r .marks) (λ (b : ℕ). (b, k)) (x ∷ y ∷ z ∷ rest) own))
@@ -234,7 +234,8 @@ module _ (rule : ℕ) (a₀ : List ℕ) where
 -- ---- the claim
 
 -- what one list of calls has come to
-record Come (rule : ℕ) {a₀ bs : List ℕ} {w : Bool} {t : Tally} {a : List ℕ} {cs : List Call} {n : ℕ} (h : Relocked false (fresh rule) a₀ bs cs w t a n) : Type 0 where
+record Come (rule : ℕ) {a₀ bs : List ℕ} {w : Bool} {t : Tally} {a : List ℕ} {cs : List Call} {n : ℕ}
+    (h : Relocked false (fresh rule) a₀ bs cs w t a n) : Type 0 where
   stamped-is : stamped 0 cs ≡ inserted leadStamped (leadIns (ruleVote rule) bs) (ownStamped 0 h)
   joined-is : joined cs ≡ handedIn (ruleVote rule) bs
   stands : Stands rule a₀ w t a (joined cs) bs n

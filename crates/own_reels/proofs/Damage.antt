@@ -1,6 +1,6 @@
 -- Two minor frames bring the cut back into step: a hunt finds the first of them, or the frame under way ends in the first; then, where it closes with a sync,
 -- one more is cut wrong, which has none, and a hunt finds the third. Whole major frames behind them are cut as they are, whatever follows. Assumes nothing.
-use mathlib.Core.Path.{_≡_, refl, sym, ap, _∙_}
+use mathlib.Core.Path.{_≡_, refl, ap, _∙_}
 use mathlib.Core.Bool.{Bool, true, false}
 use mathlib.Core.List.{List, [], _∷_, _++_, map-append, append-assoc, append-nil}
 use Prim.Native.Nat.{ℕ, _-_, _<_}
@@ -21,7 +21,8 @@ use Rattle.own_sync.specs.OwnOnce.{OwnOnce}
 use Rattle.own_sync.proofs.OwnCuts.{owns, framesHeld, own-frames, foundIn, beginning, sync}
 use Rattle.own_sync.proofs.Beside.{Stage, in-hunt, in-frame, at-lock, led-in, ownModeAt, Kept, Settled, reached}
 use Rattle.own_sync.proofs.Recovery.{LaidOut, then, laid, any-frame, good-majors, hunt-finds, hunt-behind, major-cut, majors-then, First}
-use Rattle.own_sync.proofs.Recovery.{first-frame, found-lead-in, Comes, comes, comes-on, later-majors, unsynced-class, not-synced, shifted, shifted-length, clear-left}
+use Rattle.own_sync.proofs.Recovery.{first-frame, found-lead-in, Comes, comes, comes-on, later-majors, unsynced-class, not-synced, shifted}
+use Rattle.own_sync.proofs.Recovery.{shifted-length, clear-left}
 use Rattle.own_reels.specs.Damage.{Standing, AroundDamage}
 use Rattle.own_reels.proofs.SyncedFrame.{synced-frame}
 use Rattle.own_reels.proofs.OneTooFew.{one-too-few}
@@ -95,8 +96,9 @@ module _ (f g h ys : List Word) (sf : Standing f) (sg : Standing g) (lh : length
   after-any : (d : List Word) → InStep seeks (d ++ (f ++ after-f)) after-g
   after-any d =
       let r = reached d in
-      let upto : LaidOut seeks (d ++ (f ++ after-f)) (framesHeld (r .beside .own)) (foundIn (r .beside .own)) (ownModeAt (r .stage)) (r .rest ++ (f ++ after-f)) =
-      laid (r .beside .own) (r .beside .own-cut .goes-on (f ++ after-f)) in
+      let os = r .beside .own in
+      let upto : LaidOut seeks (d ++ (f ++ after-f)) (framesHeld os) (foundIn os) (ownModeAt (r .stage)) (r .rest ++ (f ++ after-f)) =
+      laid os (r .beside .own-cut .goes-on (f ++ after-f)) in
       let x = in-step (r .stage) (r .rest) (r .settled) (r .beside .kept) in
       record { found = x .found; cut = comes-on (comes upto) (x .cut) }
 

@@ -1,17 +1,16 @@
 -- How many frames are found by their own sync as the words grow by one: one more where a lock awaits its word and another than FA comes, and none else.
 -- Assumes nothing.
-use mathlib.Core.Path.{_≡_, refl, sym, ap, _∙_}
+use mathlib.Core.Path.{_≡_, refl, sym, ap}
 use mathlib.Core.Bool.{Bool, true, false, true≢false}
 use mathlib.Core.List.{List, [], _∷_, _++_, append-assoc, append-nil}
 use Prim.Native.Nat.{ℕ, suc, _≤_}
 use native.Mathlib.Omega.{arith}
-use lib.Dec.{ltb}
 use borrow.Author.Tests.{lt-ltb, le-ltb}
 use Rattle.labelling.specs.declared.Word.{Word}
 use Rattle.labelling.specs.declared.Word.the-variants.{Erased}
 use Rattle.labelling.specs.MinorFrames.{isWord}
 use Rattle.own_sync.specs.OwnCut.{ownFound}
-use Rattle.own_sync.proofs.Beside.{Stage, in-hunt, in-frame, at-lock, led-in, Settled, isAtLock, Beside, Next, next-word, found-now, led, Reached, reached}
+use Rattle.own_sync.proofs.Beside.{Stage, in-hunt, in-frame, at-lock, led-in, Settled, isAtLock, Beside, Next, next-word, found-now, led, reached}
 use Rattle.own_reels.specs.HandedIn.{awaitsWord}
 
 -- the count after the word

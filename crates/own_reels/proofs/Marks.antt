@@ -1,13 +1,12 @@
 -- Where lead-ins stand on a reel, as it grows: bytes that find no frame add no mark, and a group whose word finds one is marked at its SYNC. A group not yet
 -- closed has no mark, and none is changed by what follows. Assumes nothing.
 use mathlib.Core.Path.{_≡_, refl, sym, ap, _∙_}
-use mathlib.Core.Bool.{Bool, true, false, cond}
+use mathlib.Core.Bool.{Bool, true, false}
 use mathlib.Core.List.{List, [], _∷_, _++_, map, append-assoc, append-nil, map-append}
 use Prim.Native.Nat.{ℕ, zero, suc, _≤_}
 use native.Mathlib.Omega.{arith}
-use lib.Dec.{ltb}
 use lib.ListN.{length, take, length-append}
-use borrow.Author.Tests.{lt-ltb, le-ltb}
+use borrow.Author.Tests.{le-ltb}
 use Rattle.base.specs.Format.{SYNC}
 use Rattle.base.specs.Lists.{concatMap}
 use Rattle.base.proofs.Lists.{concatMap-append}
@@ -15,11 +14,10 @@ use Rattle.labelling.specs.declared.Groups.{Groups}
 use Rattle.labelling.specs.declared.Word.{Word}
 use Rattle.labelling.specs.Words.{outside, Group, closed, groups, bytesOf, Vote, wordOf, words}
 use Rattle.labelling.specs.Machine.{start}
-use Rattle.labelling.proofs.Residual.{residual-now}
 use Rattle.labelling.proofs.ByteLayer.{GroupsInv, groups-start, groups-step, groups-whole}
 use Rattle.own_sync.specs.OwnCut.{ownFound}
 use Rattle.own_sync.specs.Relocking.{openGroup}
-use Rattle.own_sync.proofs.OpenGroup.{none-ahead, pending-of, four-each}
+use Rattle.own_sync.proofs.OpenGroup.{none-ahead, four-each}
 use Rattle.own_reels.specs.HandedIn.{findsFrame, nowhere, atFirst, leadsInto, leadIns, inserted}
 use Rattle.own_reels.proofs.Finding.{found-more}
 
@@ -99,7 +97,8 @@ module _ (vote : Vote) where
     marks-then ys = rw (cut ys) (leads-both [] out (groups (kept ++ ys)))
 
     -- behind them bytes that find no frame
-    quiet : (ys : List ℕ) → ownFound (words vote (xs ++ ys)) ≡ ownFound (words vote xs) → leadIns vote (xs ++ ys) ≡ leadsInto vote [] out ++ nowhere (kept ++ ys)
+    quiet : (ys : List ℕ) → ownFound (words vote (xs ++ ys)) ≡ ownFound (words vote xs)
+        → leadIns vote (xs ++ ys) ≡ leadsInto vote [] out ++ nowhere (kept ++ ys)
     unfolding words
     quiet ys e =
         let same : ownFound (wordsOf out ++ wordsOf (groups (kept ++ ys))) ≡ ownFound (wordsOf out) =
@@ -143,10 +142,10 @@ module _ (vote : Vote) where
           let g = ends xs .groups-at in
           let closed-off : kept ≡ [] = none-kept (g .«open») g (ends xs .holds .few-open) longer in
           let four = SYNC ∷ x ∷ y ∷ z ∷ [] in
-          let now : leadIns vote xs ≡ leadsInto vote [] out =
-          ap (leadIns vote) (sym (append-nil xs)) ∙ marks-then [] ∙ ap (λ (l : List ℕ). leadsInto vote [] out ++ leadsInto vote (wordsOf out) (groups (l ++ []))) closed-off
-          ∙ append-nil (leadsInto vote [] out) in
+          let before = leadsInto vote [] out in
+          let now : leadIns vote xs ≡ before =
+          ap (leadIns vote) (sym (append-nil xs)) ∙ marks-then []
+          ∙ ap (λ (l : List ℕ). before ++ leadsInto vote (wordsOf out) (groups (l ++ []))) closed-off ∙ append-nil before in
           let finds : findsFrame (wordsOf out) (vote x y z ∷ []) ≡ true = ap (λ (l : List Word). findsFrame l (vote x y z ∷ [])) (sym words-out) ∙ e in
-          marks-then four ∙ ap (λ (l : List ℕ). leadsInto vote [] out ++ leadsInto vote (wordsOf out) (groups (l ++ four))) closed-off
-          ∙ ap (λ (m : Bool). leadsInto vote [] out ++ (atFirst m four ++ [])) finds
-          ∙ ap (λ (l : List Bool). l ++ atFirst true four) (sym now)
+          marks-then four ∙ ap (λ (l : List ℕ). before ++ leadsInto vote (wordsOf out) (groups (l ++ four))) closed-off
+          ∙ ap (λ (m : Bool). before ++ (atFirst m four ++ [])) finds ∙ ap (λ (l : List Bool). l ++ atFirst true four) (sym now)

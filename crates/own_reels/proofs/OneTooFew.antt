@@ -67,7 +67,8 @@ module _ (v : Word) (f : List Word) (plain : isWord 0xfa v ≡ false) (sf : Stan
     none : synced second-frame ≡ false
     none =
         let full : length second-frame ≡ 128 = shifted-length 124 v₀ g (w .0) (omega (arith, left)) in
-        not-synced v₀ g 124 (omega (arith, left)) (clear-left 124 f (omega arith) (sf .conforms)) (w .0) (good-synced g (numbered-good 0 g (w .1))) (omega arith)
+        let clear = clear-left 124 f (omega arith) (sf .conforms) in
+        not-synced v₀ g 124 (omega (arith, left)) clear (w .0) (good-synced g (numbered-good 0 g (w .1))) (omega arith)
 
     deceived : LaidOut seeks reel-so [] 0 finds reel-so
     unfolding synced

@@ -1,6 +1,6 @@
 -- The bytes that the reader is handed for a reel whose frames are found by their own sync: the reel's, and the lead-in of spacing 0 just before the
 -- SYNC of each group whose word finds a frame. They are said of the whole reel, and not of calls. Definitions only.
-use mathlib.Core.Bool.{Bool, true, false, cond}
+use mathlib.Core.Bool.{Bool, false, cond}
 use mathlib.Core.List.{List, [], _∷_, _++_, map}
 use Prim.Native.Nat.{ℕ}
 use lib.Dec.{ltb}
