@@ -4,4 +4,5 @@ pub mod AnyCut
 pub mod SyncedFrame
 pub mod OneTooFew
 pub mod Damage
+pub mod WrittenWords
 pub mod Written

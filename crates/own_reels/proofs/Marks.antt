@@ -36,7 +36,7 @@ inserted-none {A} lead ms f (y ∷ ys) xs = ap (λ (l : List A). f y ∷ l) (ins
 
 module _ (vote : Vote) where
   -- the words of groups
-  abbrev wordsOf : List Group → List Word
+  abbrev pub wordsOf : List Group → List Word
   wordsOf gs = concatMap (wordOf vote) gs
 
   leads-both : (ws : List Word) (gs hs : List Group) → leadsInto vote ws (gs ++ hs) ≡ leadsInto vote ws gs ++ leadsInto vote (ws ++ wordsOf gs) hs
@@ -60,11 +60,11 @@ module _ (vote : Vote) where
 
   -- ---- a reel cut at its last group
 
-  record Ends (bs : List ℕ) : Type 0 where
-    groups-at : Groups
-    holds : GroupsInv vote groups-at bs
+  pub record Ends (bs : List ℕ) : Type 0 where
+    pub groups-at : Groups
+    pub holds : GroupsInv vote groups-at bs
 
-  ends : (bs : List ℕ) → Ends bs
+  pub ends : (bs : List ℕ) → Ends bs
   ends bs = go [] bs (record { groups-at = start .groups; holds = groups-start vote })
     where
       go : (done rest : List ℕ) → Ends done → Ends (done ++ rest)
@@ -73,17 +73,17 @@ module _ (vote : Vote) where
           rw append-assoc at (go (done ++ b ∷ []) rest (record { groups-at = _; holds = groups-step vote (r .groups-at) b done (r .holds) }))
 
   module _ (xs : List ℕ) where
-    abbrev out : List Group
+    abbrev pub out : List Group
     out = ends xs .holds .out
 
     -- the group not yet closed
-    abbrev kept : List ℕ
+    abbrev pub kept : List ℕ
     kept = openGroup (ends xs .groups-at)
 
     cut : (ys : List ℕ) → groups (xs ++ ys) ≡ out ++ groups (kept ++ ys)
     cut ys = ends xs .holds .residual .goes-on ys
 
-    words-then : (ys : List ℕ) → words vote (xs ++ ys) ≡ wordsOf out ++ words vote (kept ++ ys)
+    pub words-then : (ys : List ℕ) → words vote (xs ++ ys) ≡ wordsOf out ++ words vote (kept ++ ys)
     unfolding words
     words-then ys = rw (cut ys) (concatMap-append (wordOf vote) out (groups (kept ++ ys)))
 

@@ -1,17 +1,15 @@
--- What the writer makes, as words: each byte gives its word, whatever the spacing, so that a written reel is a lead-in and whole major frames in the sense of
--- `own_sync`. Assumes nothing.
-use mathlib.Core.Path.{_≡_, refl, sym, ap, ap₂, _∙_}
-use mathlib.Core.Bool.{Bool, true, false}
-use mathlib.Core.List.{List, [], _∷_, _++_, map, append-assoc}
+-- Written reels in the sense of `own_sync`: a lead-in and whole major frames, or major frames between bytes of any kind. Assumes nothing.
+use mathlib.Core.Path.{_≡_, refl, sym, ap, _∙_}
+use mathlib.Core.Bool.{true, false}
+use mathlib.Core.List.{List, [], _∷_, _++_, map, append-nil}
 use Prim.Native.Nat.{ℕ, suc, _+_, _≤_}
 use native.Mathlib.Omega.{arith}
 use lib.Dec.{eqb}
 use lib.ListN.{length, getD, length-map}
 use borrow.Author.Tests.{eq-eqb}
-use Rattle.base.specs.Lists.{concatMap}
 use Rattle.labelling.specs.declared.Word.{Word}
 use Rattle.labelling.specs.declared.Word.the-variants.{Voted, Erased}
-use Rattle.labelling.specs.Words.{SYNC, FILL, outside, groups, Vote, words}
+use Rattle.labelling.specs.Words.{Vote, words}
 use Rattle.labelling.specs.Votes.{ruleVote}
 use Rattle.labelling.specs.MinorFrames.{isWord, synced}
 use Rattle.labelling.specs.MajorFrames.{isGood, number}
@@ -19,17 +17,17 @@ use Rattle.labelling.specs.Order.{isRule}
 use Rattle.labelling.proofs.RunCuts.{numbered-by}
 use Rattle.own_sync.specs.OwnCut.{ownCut, ownFound}
 use Rattle.own_sync.specs.Recovery.{WholeFrom, AllWhole as WholeWords, wordsIn, leadInWords, PlainAfterSync}
-use Rattle.own_sync.proofs.Recovery.{led-found}
+use Rattle.own_sync.proofs.Recovery.{good-synced, led-found}
 use Rattle.own_sync.proofs.Relocking.{relocked-handed, own-once}
-use Rattle.writer.specs.Stream.{stream}
-use Rattle.writer.specs.ReadBack.{Minor, Numbered, AllWhole, reel}
-use Rattle.writer.proofs.ReadingBack.{asFrame, asMajor, allWords, majors-back, good, number-back, gives-stream, gives-majors, gives-reel, reel-promise}
-use Rattle.own_reels.specs.Written.{unled, NoGroup, FirstPlain, WrittenReels}
+use Rattle.writer.specs.Stream.{stream, leadIn}
+use Rattle.writer.specs.ReadBack.{Minor, Numbered, AllWhole, written, reel}
+use Rattle.writer.proofs.ReadingBack.{asFrame, asMajor, majors-back, good, number-back, reel-promise}
+use Rattle.own_reels.specs.Damage.{Standing}
+use Rattle.own_reels.specs.Written.{unled, NoGroup, FirstPlain, StandingMinor, WrittenReels}
+use Rattle.own_reels.proofs.Damage.{around-damage}
+use Rattle.own_reels.proofs.WrittenWords.{asMajors, words-cut-off, words-after-any, words-stream, words-unled}
 
 -- ---- minor frames as words
-
-abbrev asMajors : List (List Minor) → List (List (List Word))
-asMajors mss = map asMajor mss
 
 -- a minor frame with its sync is good, and keeps its number
 whole-from : (n : ℕ) (ms : List Minor) → n + length ms ≤ 128 → Numbered n ms → WholeFrom n (asMajor ms)
@@ -55,42 +53,41 @@ first-plain (m ∷ ms) l h = go (m .bytes) h
     go (a ∷ b ∷ c ∷ []) h = refl
     go (a ∷ b ∷ c ∷ d ∷ bytes) h = h
 
--- the words of the frames, one after the other
-words-join : (ms : List Minor) → concatMap asFrame ms ≡ concatMap (λ f. f) (asMajor ms)
-words-join [] = refl
-words-join (m ∷ ms) = ap (λ (l : List Word). asFrame m ++ l) (words-join ms)
+-- a minor frame as the book has it
+standing : (m : Minor) → StandingMinor m → Standing (asFrame m)
+standing m s = record {
+  full = length-map (m .bytes) Voted ∙ s .full;
+  has-sync = good-synced (asFrame m) (good m (s .has-sync));
+  conforms = s .conforms;
+}
 
-all-words : (mss : List (List Minor)) → allWords mss ≡ wordsIn (asMajors mss) ++ []
-all-words [] = refl
-all-words (ms ∷ mss) = rw append-assoc (ap₂ (λ (l r : List Word). l ++ r) (words-join ms) (all-words mss))
+-- ---- the words of reels
 
--- ---- bytes to words
-
-module _ (rule : ℕ) (is-rule : isRule rule ≡ true) where
+module _ (rule : ℕ) where
   abbrev vote : Vote
   vote = ruleVote rule
 
+  -- nothing behind them
+  words-end : (mss : List (List Minor)) → words vote (unled mss) ≡ wordsIn (asMajors mss) ++ []
+  unfolding words
+  words-end mss = ap (words vote) (sym (append-nil (unled mss))) ∙ words-unled rule mss []
+
   words-reel : (f : ℕ) (mss : List (List Minor)) → words vote (reel f mss) ≡ leadInWords ++ (wordsIn (asMajors mss) ++ [])
-  words-reel f mss = gives-reel rule is-rule f mss .words-are ∙ ap (λ (l : List Word). leadInWords ++ l) (all-words mss)
-
-  -- bytes outside a group that open none
-  words-other : (b : ℕ) (xs : List ℕ) → eqb b SYNC ≡ false → words vote (b ∷ xs) ≡ words vote xs
-  unfolding words outside
-  words-other b xs e = go (eqb b FILL) refl
-    where
-      go : (fill : Bool) → eqb b FILL ≡ fill → words vote (b ∷ xs) ≡ words vote xs
-      go true f = rw (e, f, groups)
-      go false f = rw (e, f, groups)
-
-  words-cut-off : (s xs : List ℕ) → NoGroup s → words vote (s ++ xs) ≡ words vote xs
-  words-cut-off [] xs h = refl
-  words-cut-off (b ∷ s) xs h = words-other b (s ++ xs) (h .0) ∙ words-cut-off s xs (h .1)
+  unfolding reel
+  words-reel f mss = words-stream rule f leadIn (unled mss) ∙ ap (λ (l : List Word). leadInWords ++ l) (words-end mss)
 
   words-begun : (s : List ℕ) (f : ℕ) (q : List ℕ) (mss : List (List Minor)) → NoGroup s
       → words vote (s ++ (stream f q ++ unled mss)) ≡ map Voted q ++ (wordsIn (asMajors mss) ++ [])
   words-begun s f q mss h =
-      words-cut-off s (stream f q ++ unled mss) h ∙ gives-stream rule is-rule f q (gives-majors rule is-rule mss) .words-are
-      ∙ ap (λ (l : List Word). map Voted q ++ l) (all-words mss)
+      words-cut-off vote s (stream f q ++ unled mss) h ∙ words-stream rule f q (unled mss) ∙ ap (λ (l : List Word). map Voted q ++ l) (words-end mss)
+
+  -- two minor frames, major frames, and bytes of any kind
+  words-between : (f g : Minor) (mss : List (List Minor)) (y : List ℕ)
+      → words vote (written f ++ (written g ++ (unled mss ++ y))) ≡ asFrame f ++ (asFrame g ++ (wordsIn (asMajors mss) ++ words vote y))
+  words-between f g mss y =
+      words-stream rule (f .spacing) (f .bytes) (written g ++ (unled mss ++ y))
+      ∙ ap (λ (l : List Word). asFrame f ++ l)
+      (words-stream rule (g .spacing) (g .bytes) (unled mss ++ y) ∙ ap (λ (l : List Word). asFrame g ++ l) (words-unled rule mss y))
 
   -- ---- the claim
 
@@ -98,8 +95,12 @@ module _ (rule : ℕ) (is-rule : isRule rule ≡ true) where
   unfolding ownFound ownCut synced
   none-found = refl
 
-  pub written-reels : (a₀ : List ℕ) → length a₀ ≡ 16384 → WrittenReels rule a₀
-  written-reels a₀ whole = record {
+  no-lead-in : (f : ℕ) (mss : List (List Minor)) → AllWhole mss → ownFound (words vote (reel f mss)) ≡ 0
+  no-lead-in f [] w = ap ownFound (words-reel f []) ∙ none-found
+  no-lead-in f (ms ∷ mss) w = ap ownFound (words-reel f (ms ∷ mss)) ∙ led-found (asMajor ms) (asMajors mss) [] (all-whole (ms ∷ mss) w) (omega arith)
+
+  pub written-reels : isRule rule ≡ true → (a₀ : List ℕ) → length a₀ ≡ 16384 → WrittenReels rule a₀
+  written-reels is-rule a₀ whole = record {
     with-lead-in = λ f mss w h.
         let o = own-once rule a₀ is-rule whole h in
         let none = o .lead-ins-are ∙ no-lead-in f mss w in
@@ -112,8 +113,13 @@ module _ (rule : ℕ) (is-rule : isRule rule ≡ true) where
         o .recovers .begun-anywhere (map Voted q) (asMajor ms) (asMajors mss) [] (words-begun s f q (ms ∷ mss) none) (clear ∙ sym (length-map q Voted)) v
         (first-plain ms (w .0 .all) plain) (omega arith) in
         (r .0, r .1 ∙ majors-back (ms ∷ mss));
+    between = λ x s b f g ms mss y other sf sg w plain h.
+        let o = own-once rule a₀ is-rule whole h in
+        let v = all-whole (ms ∷ mss) w in
+        let front = words-after-any vote x s b (written f ++ (written g ++ (unled (ms ∷ mss) ++ y))) other in
+        let is = front .1 ∙ ap (λ (l : List Word). front .0 ++ l) (words-between f g (ms ∷ mss) y) in
+        let r =
+        around-damage o .between (front .0) (asFrame f) (asFrame g) (asMajor ms) (asMajors mss) (words vote y) is (standing f sf) (standing g sg) v
+        (first-plain ms (w .0 .all) plain) in
+        (r .0, r .1, r .2 ∙ ap (λ (l : List (List ℕ)). r .0 ++ (l ++ r .1)) (majors-back (ms ∷ mss)));
   }
-    where
-      no-lead-in : (f : ℕ) (mss : List (List Minor)) → AllWhole mss → ownFound (words vote (reel f mss)) ≡ 0
-      no-lead-in f [] w = ap ownFound (words-reel f []) ∙ none-found
-      no-lead-in f (ms ∷ mss) w = ap ownFound (words-reel f (ms ∷ mss)) ∙ led-found (asMajor ms) (asMajors mss) [] (all-whole (ms ∷ mss) w) (omega arith)
