@@ -18,7 +18,6 @@ use Rattle.labelling.proofs.CallLaws.{refused-answer, accepted-operators}
 use Rattle.labelling.proofs.Demand.{same-tally}
 use Rattle.own_sync.specs.Locks.{toLock}
 use Rattle.own_sync.specs.Relocking.{leadIn, Relocked as RelockedCalls, done}
-use Rattle.own_sync.specs.OwnOnce.{OwnOnce}
 use Rattle.own_sync.proofs.Relocking.{own-once}
 use Rattle.own_reels.specs.AnyCut.{SameLeft}
 use Rattle.own_reels.proofs.AnyCut.{any-cut}

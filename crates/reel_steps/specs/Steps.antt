@@ -1,5 +1,5 @@
--- Steps over a reel as it comes, by their contract alone: each on a piece of any length, from the feeder and the area that the one before left; and that no answer
--- depends on the pieces. No operator is named between them. Definitions only.
+-- Steps over a reel as it comes, by their contract alone: each on a piece of any length, from the feeder and the area that the one before left; and that no
+-- answer depends on the pieces. No operator is named between them. Definitions only.
 use mathlib.Core.Path.{_≡_}
 use mathlib.Core.Bool.{Bool, cond}
 use mathlib.Core.List.{List, [], _∷_, _++_}
