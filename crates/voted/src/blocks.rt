@@ -9,6 +9,7 @@ ghost use Rattle.base.specs.Lists.{one};
 ghost use Rattle.voted.specs.Lanes.{columns, Blank, Gathered, copied, Counts};
 ghost use Rattle.voted.specs.Copies.{copies, IsVoted};
 ghost use Rattle.voted.specs.Stretches.{Spaced, RunRoom, RunsOn};
+use crate::fill::FOUR_FILL;
 use crate::placing::LAST_PLACE;
 use crate::placing::Run;
 use crate::votes;
@@ -19,8 +20,6 @@ use base::format::SYNC;
 const LANES: usize = 64;
 
 const CELL: usize = 9;
-
-const FOUR_FILL: u64 = 0x32323232;
 
 // Each two copies agree once.
 const ALIKE: u64 = 0x100010001;

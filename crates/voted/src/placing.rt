@@ -3,6 +3,7 @@ ghost use Prim.Native.Nat.{_≤_};
 ghost use mathlib.Core.Path.{_≡_};
 ghost use Rattle.voted.specs.Stretches.{RunRoom, RunsOut, Longest, noGroup, Placed};
 use crate::blocks;
+use crate::fill;
 use crate::votes;
 use base::format::MINOR_FRAME;
 use base::format::SYNC;
@@ -68,7 +69,7 @@ fn groups(piece: &[u8], before: Run, frame: &mut [u8; 128]) -> Run
         sums += agree;
         last = at;
         p += 1;
-        at = nominal::skip_fill(piece, at + 4);
+        at = fill::past_fill(piece, at + 4);
     }
     Run {
         at: at,
