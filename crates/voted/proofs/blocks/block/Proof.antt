@@ -101,7 +101,7 @@ mul-t30 : tie.Need-mul-t30
 mul-t30 c = search needs
 
 sub-t31 : tie.Need-sub-t31
-sub-t31 c = off (c .before .before) .0
+sub-t31 c = omega (arith, off (c .before .before) .0)
 
 add-t32 : tie.Need-add-t32
 add-t32 c =
@@ -112,12 +112,12 @@ returns-3 : tie.Need-returns-3
 returns-3 c =
     let p = c .before .before .before in
     let v = told p .vote .ensures in
-    let voted = v .voted (whole p .if2 .left) in
+    let voted = v .voted (omega (arith, whole p .if2 .left)) in
     let few = few-cells p in (
       record {
         kept = λ i q f b.
             block-kept b (words p) (cells p .gather .ensures .0) (λ m h. voted m (omega arith))
-            (λ m h. v .words-are m (omega arith) (voted m (omega arith))) (some-cells p) (rw (off p .1)) (p .put .ensures);
+            (λ m h. v .words-are m (omega arith) (voted m (omega arith))) (some-cells p) (omega (arith, off p .1)) (p .put .ensures);
         has-room = record { room = room p; few = omega (arith, off p .1, total-few (ls p) (n p), start p .pre .few) };
       },
       omega arith,
