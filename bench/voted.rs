@@ -1,5 +1,6 @@
-// Voted stretches in safe Rust: groups of which at least two copies are equal, with FILL between them. Which two copies of a group agree is counted
-// three counts side by side in one number, and the word comes from masks, so that no branch depends on which copy is bad.
+// Voted stretches in safe Rust: groups of which at least two copies are equal, with FILL between them. Cells are taken in blocks, whose copies are
+// gathered into three columns and compared as vectors; of other groups it is counted which two copies agree, three counts side by side in one number,
+// and the word comes from masks. So no branch depends on which copy is bad.
 
 use crate::nominal::{eight, leading_fill, CELL, GROUP};
 use crate::tally::{Tally, FILL, FRAME, FRAME_SYNC, SYNC};
@@ -7,6 +8,9 @@ use crate::tally::{Tally, FILL, FRAME, FRAME_SYNC, SYNC};
 // The bytes of a cell that are no copies, among its first eight.
 const SPACED: u64 = u64::from_le_bytes([0xFF, 0, 0, 0, 0xFF, 0xFF, 0xFF, 0xFF]);
 const SPACED_BITS: u64 = u64::from_le_bytes([SYNC, 0, 0, 0, FILL, FILL, FILL, FILL]);
+
+// So many cells of a block at most.
+const LANES: usize = 64;
 
 // Three counts stand side by side in 16 bits each.
 const MOST: usize = 0xFFFF;
@@ -34,12 +38,12 @@ pub fn take(t: &mut Tally, piece: &[u8]) -> usize {
 fn place(t: &mut Tally, piece: &[u8]) -> usize {
     let places = &mut t.frame[t.placed as usize..FRAME - 1];
     let mut run = Run::default();
-    // Twice, since a sixth FILL comes once in a frame or so.
-    for _ in 0..2 {
+    // A block is begun where a group is voted, and the next one where a block took something.
+    let mut more = group_at(&run, piece).is_some();
+    while more {
+        more = place_block(&mut run, piece, places);
         run.bytes += leading_fill(&piece[run.bytes..]);
-        place_cells(&mut run, piece, places);
     }
-    run.bytes += leading_fill(&piece[run.bytes..]);
     for place in &mut places[run.groups..] {
         match group_at(&run, piece) {
             Some((agree, word)) => {
@@ -53,24 +57,55 @@ fn place(t: &mut Tally, piece: &[u8]) -> usize {
     run.count(t, piece)
 }
 
-#[inline(always)]
-fn place_cells(run: &mut Run, piece: &[u8], places: &mut [u8]) {
-    let (mut cells, mut agreements) = (0, 0);
-    for (place, cell) in places[run.groups..].iter_mut().zip(piece[run.bytes..].chunks_exact(CELL)) {
-        let agree = agreement(cell[1], cell[2], cell[3]);
-        if eight(cell) & SPACED != SPACED_BITS || cell[8] != FILL || agree == 0 {
+// A block of cells, as many as there are places: whether it took some. It takes none where a group is split. Not inlined, here and below, it is faster.
+#[inline(never)]
+fn place_block(run: &mut Run, piece: &[u8], places: &mut [u8]) -> bool {
+    let (mut first, mut second, mut third) = ([0; LANES], [0; LANES], [0; LANES]);
+    let mut n = 0;
+    for cell in piece[run.bytes..].chunks_exact(CELL).take(LANES.min(places.len() - run.groups)) {
+        if !is_spaced(cell) {
             break;
         }
-        *place = masked(cell[1], cell[2], cell[3]);
-        cells += 1;
-        agreements += agree;
+        first[n] = cell[1];
+        second[n] = cell[2];
+        third[n] = cell[3];
+        n += 1;
     }
-    if cells != 0 {
-        run.last = run.bytes + CELL * (cells - 1);
-        run.bytes += CELL * cells;
-        run.groups += cells;
-        run.agreements += agreements;
+    if n == 0 {
+        return false;
     }
+    let mut words = [0; LANES];
+    let (agreements, split) = vote(&first, &second, &third, &mut words);
+    if split != 0 {
+        return false;
+    }
+    places[run.groups..run.groups + n].copy_from_slice(&words[..n]);
+    run.last = run.bytes + CELL * (n - 1);
+    run.bytes += CELL * n;
+    run.groups += n;
+    // Lanes with no cell have three equal copies.
+    run.agreements += agreements - (LANES - n) as u64 * side_by_side(1, 1, 1);
+    true
+}
+
+// Votes on each lane, whatever stands in it: how often copies agree, and how many lanes are split.
+#[inline(never)]
+fn vote(first: &[u8; LANES], second: &[u8; LANES], third: &[u8; LANES], words: &mut [u8; LANES]) -> (u64, u8) {
+    let (mut first_two, mut outer_two, mut last_two, mut split) = (0u8, 0u8, 0u8, 0u8);
+    for k in 0..LANES {
+        let (a, b, c) = (first[k], second[k], third[k]);
+        words[k] = masked(a, b, c);
+        first_two += u8::from(a == b);
+        outer_two += u8::from(a == c);
+        last_two += u8::from(b == c);
+        split += u8::from(agreement(a, b, c) == 0);
+    }
+    (side_by_side(first_two, outer_two, last_two), split)
+}
+
+#[inline(always)]
+fn is_spaced(cell: &[u8]) -> bool {
+    eight(cell) & SPACED == SPACED_BITS && cell[8] == FILL
 }
 
 fn hunt(t: &mut Tally, piece: &[u8]) -> usize {
@@ -96,7 +131,12 @@ fn group_at(run: &Run, piece: &[u8]) -> Option<(u64, u8)> {
 
 #[inline(always)]
 fn agreement(a: u8, b: u8, c: u8) -> u64 {
-    u64::from(a == b) + (u64::from(a == c) << 16) + (u64::from(b == c) << 32)
+    side_by_side(u8::from(a == b), u8::from(a == c), u8::from(b == c))
+}
+
+#[inline(always)]
+fn side_by_side(x: u8, y: u8, z: u8) -> u64 {
+    u64::from(x) + (u64::from(y) << 16) + (u64::from(z) << 32)
 }
 
 #[inline(always)]

@@ -19,7 +19,7 @@ use Rattle.voted.specs.Stretches.{Decided, ends, fill, group}
 
 -- ---- one group
 
-one-few : (b : Bool) → one b ≤ 1
+pub one-few : (b : Bool) → one b ≤ 1
 one-few true = omega arith
 one-few false = omega arith
 

@@ -1,3 +1,4 @@
 pub mod Agreeing
 pub mod Joining
+pub mod Lanes
 pub mod Effect

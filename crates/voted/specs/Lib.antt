@@ -1,3 +1,4 @@
 pub mod Copies
 pub mod Stretches
+pub mod Lanes
 pub mod Effect

@@ -1,6 +1,7 @@
 // Voted groups while the sync is hunted with nothing matched: words other than FA change nothing but counts.
 ghost use mathlib.Core.Path.{_≡_};
 ghost use Rattle.voted.specs.Stretches.{Sought, nonePassed, Hunted};
+use crate::fill;
 use crate::votes;
 use base::format::SYNC;
 use base::format::SYNC_WORD_0;
@@ -72,7 +73,7 @@ fn other_groups(piece: &[u8], from: usize) -> Hunt
         sums += agree;
         last = at;
         count += 1;
-        at = nominal::skip_fill(piece, at + 4);
+        at = fill::past_fill(piece, at + 4);
     }
     Hunt {
         at: at,

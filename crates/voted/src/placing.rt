@@ -1,19 +1,16 @@
 // Voted groups while words are placed, as far as the last place.
-ghost use Prim.Native.Nat.{_+_, _*_, _-_, _≤_, _<_};
+ghost use Prim.Native.Nat.{_≤_};
 ghost use mathlib.Core.Path.{_≡_};
-ghost use mathlib.Core.Bool.{true};
-ghost use lib.ListN.{length};
-ghost use Rattle.voted.specs.Stretches.{Spaced, RunRoom, RunsOn, RunsOut, Longest, noGroup, Placed};
+ghost use Rattle.voted.specs.Stretches.{RunRoom, RunsOut, Longest, noGroup, Placed};
+use crate::blocks;
+use crate::fill;
 use crate::votes;
-use base::format::FILL;
 use base::format::MINOR_FRAME;
 use base::format::SYNC;
 use labelling::Weak;
 
 // The last place of a frame is left to the caller: its word may complete a major frame.
-const LAST_PLACE: usize = MINOR_FRAME - 1;
-
-const FOUR_FILL: u64 = 0x32323232;
+pub(crate) const LAST_PLACE: usize = MINOR_FRAME - 1;
 
 // How far a stretch goes, how far the frame is filled then, the weak copies of its groups, and the first two copies of the last of them.
 pub struct Filled {
@@ -30,77 +27,6 @@ pub(crate) struct Run {
     pub(crate) placed: usize,
     pub(crate) last: usize,
     pub(crate) sums: u64,
-}
-
-// Whether SYNC stands here, and five FILL after the three copies.
-fn is_spaced(piece: &[u8], at: usize) -> bool
-    requires { ⌜ at + 8 < length (now piece) ⌝ }
-    ensures { λ r. ⌜ (r ≡ true → Spaced (now (piece .entry)) at) ⌝ }
-{
-    if piece[at] != SYNC {
-        return false;
-    }
-    if nominal::four(piece, at + 4) != FOUR_FILL {
-        return false;
-    }
-    piece[at + 8] == FILL
-}
-
-// Where cells end: at the last place, or where the piece has no whole one.
-fn stop_of(piece: &[u8], from: usize, placed: usize) -> usize
-    requires { ⌜ placed ≤ 127 ⌝ }
-    ensures { λ r. ⌜ (r ≤ from + 9 * (127 - placed)) × (r ≤ from + (length (now (piece .entry)) - 8 - from)) ⌝ }
-{
-    let end = nominal::starts(piece, 9);
-    if end <= from {
-        return from;
-    }
-    if end - from < 9 * (LAST_PLACE - placed) {
-        return end;
-    }
-    from + 9 * (LAST_PLACE - placed)
-}
-
-// Cells: each has a group and five FILL.
-fn cells(piece: &[u8], before: Run, frame: &mut [u8; 128]) -> Run
-    requires { ⌜ RunRoom before ⌝ }
-    ensures { λ r. ⌜ RunsOn (now (piece .entry)) before (now (frame .entry)) r (now (frame .exit)) ⌝ }
-{
-    let stop = stop_of(piece, before.at, before.placed);
-    let mut at = before.at;
-    let mut p = before.placed;
-    let mut last = before.last;
-    let mut sums = before.sums;
-    while at < stop {
-        if !is_spaced(piece, at) {
-            return Run {
-                at: at,
-                placed: p,
-                last: last,
-                sums: sums,
-            };
-        }
-        let agree = votes::agreeing(piece, at);
-        if agree == 0 {
-            return Run {
-                at: at,
-                placed: p,
-                last: last,
-                sums: sums,
-            };
-        }
-        frame[p] = votes::word(piece, at);
-        sums += agree;
-        last = at;
-        p += 1;
-        at += 9;
-    }
-    Run {
-        at: at,
-        placed: p,
-        last: last,
-        sums: sums,
-    }
 }
 
 // Groups with any FILL before and after each: all that is left of the stretch.
@@ -143,7 +69,7 @@ fn groups(piece: &[u8], before: Run, frame: &mut [u8; 128]) -> Run
         sums += agree;
         last = at;
         p += 1;
-        at = nominal::skip_fill(piece, at + 4);
+        at = fill::past_fill(piece, at + 4);
     }
     Run {
         at: at,
@@ -153,7 +79,7 @@ fn groups(piece: &[u8], before: Run, frame: &mut [u8; 128]) -> Run
     }
 }
 
-// The whole stretch: cells, once more after a sixth FILL, and groups.
+// The whole stretch: blocks of cells, and groups.
 fn longest(piece: &[u8], from: usize, start: usize, frame: &mut [u8; 128]) -> Run
     requires { ⌜ start ≤ 127 ⌝ }
     ensures { λ r. ⌜ Longest (now (piece .entry)) from start (now (frame .entry)) r (now (frame .exit)) ⌝ }
@@ -164,9 +90,7 @@ fn longest(piece: &[u8], from: usize, start: usize, frame: &mut [u8; 128]) -> Ru
         last: from,
         sums: 0,
     };
-    let mut first = cells(piece, begun, frame);
-    first.at = nominal::skip_fill(piece, first.at);
-    groups(piece, cells(piece, first, frame), frame)
+    groups(piece, blocks::blocks(piece, begun, frame), frame)
 }
 
 // No group: FILL alone.

@@ -2,7 +2,8 @@
 ghost use mathlib.Core.Path.{_≡_};
 ghost use Prim.Native.Nat.{_+_, _<_};
 ghost use lib.ListN.{length};
-ghost use Rattle.voted.specs.Copies.{copies, copiesAt, IsVoted, wordOf, agreement, Agreed, Agreement};
+ghost use Rattle.voted.specs.Copies.{copies, copiesAt, IsVoted, wordOf, sideBySide, agreement, Agreed, Agreement};
+use base::wide;
 use labelling::Weak;
 
 // A count of each two copies that are equal, first and second lowest, then first and third: side by side in one number, so that a loop adds up one.
@@ -18,10 +19,17 @@ pub(crate) fn agreeing(piece: &[u8], at: usize) -> u64
     agreed(piece[at + 1], piece[at + 2], piece[at + 3])
 }
 
-fn agreed(a: u8, b: u8, c: u8) -> u64
+pub(crate) fn agreed(a: u8, b: u8, c: u8) -> u64
     ensures { λ r. ⌜ r ≡ agreement (copies a b c) ⌝ }
 {
     (a == b) as u64 + OUTER * (a == c) as u64 + LAST * (b == c) as u64
+}
+
+// Three counts side by side.
+pub(crate) fn side_by_side(x: u8, y: u8, z: u8) -> u64
+    ensures { λ r. ⌜ r ≡ sideBySide x y z ⌝ }
+{
+    wide(x) + OUTER * wide(y) + LAST * wide(z)
 }
 
 // Its word, where at least two copies are equal.
@@ -32,7 +40,7 @@ pub(crate) fn word(piece: &[u8], at: usize) -> u8
     by_masks(piece[at + 1], piece[at + 2], piece[at + 3])
 }
 
-fn by_masks(a: u8, b: u8, c: u8) -> u8
+pub(crate) fn by_masks(a: u8, b: u8, c: u8) -> u8
     ensures { λ r. ⌜ (IsVoted (copies a b c) → r ≡ wordOf (copies a b c)) ⌝ }
 {
     (a & b) | (a & c) | (b & c)

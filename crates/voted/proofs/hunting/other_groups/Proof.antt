@@ -83,15 +83,15 @@ add-sums c =
 add-count : tie.Need-add-count Inv-loop μ-loop
 add-count c = omega arith
 
-add-skip-fill : tie.Need-add-skip-fill Inv-loop μ-loop
-add-skip-fill c = omega arith
+add-past-fill : tie.Need-add-past-fill Inv-loop μ-loop
+add-past-fill c = omega arith
 
-skip-fill-requires-2 : tie.Need-skip-fill-requires-2 Inv-loop μ-loop
-skip-fill-requires-2 c κs = search needs
+past-fill-requires : tie.Need-past-fill-requires Inv-loop μ-loop
+past-fill-requires c κs = search needs
 
 loop-less : tie.Need-loop-less Inv-loop μ-loop
 loop-less c =
-    let filled = c .skip-fill2 .ensures .stretch in
+    let filled = c .past-fill .ensures .stretch in
     omega (arith, nominal-far filled, nominal-inside filled (omega arith))
 
 loop-again : tie.Need-loop-again Inv-loop μ-loop
@@ -107,7 +107,7 @@ loop-again c =
     let voted = voted-of (copiesAt p (k .at)) (λ e. agreed .if3 .left (agree ∙ e)) in
     let sync : Byte p (k .at) SYNC = record { inside = omega arith; is = agreeing .before .if2 .left } in
     let unlike : wordOf (copiesAt p (k .at)) ≡ syncWord 0 → ⊥ = λ e. other .if4 .left (other .before .word .ensures voted ∙ e) in
-    let filled = c .skip-fill2 .ensures in
+    let filled = c .past-fill .ensures in
     (going-on (k .inv .0) (omega arith) (group-at sync (omega arith)) voted unlike (past-fill (filled .stretch)) agree, filled .no-fill)
 
 returns-5 : tie.Need-returns-5 Inv-loop μ-loop
@@ -133,8 +133,8 @@ other-groups-spec =
     returns-4
     add-sums
     add-count
-    add-skip-fill
-    skip-fill-requires-2
+    add-past-fill
+    past-fill-requires
     loop-less
     loop-again
     returns-5)

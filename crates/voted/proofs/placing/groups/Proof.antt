@@ -90,15 +90,15 @@ add-sums c =
 add-p : tie.Need-add-p Inv-loop μ-loop
 add-p c = omega arith
 
-add-skip-fill : tie.Need-add-skip-fill Inv-loop μ-loop
-add-skip-fill c = omega arith
+add-past-fill : tie.Need-add-past-fill Inv-loop μ-loop
+add-past-fill c = omega arith
 
-skip-fill-requires-2 : tie.Need-skip-fill-requires-2 Inv-loop μ-loop
-skip-fill-requires-2 c κs = search needs
+past-fill-requires : tie.Need-past-fill-requires Inv-loop μ-loop
+past-fill-requires c κs = search needs
 
 loop-less : tie.Need-loop-less Inv-loop μ-loop
 loop-less c =
-    let filled = c .skip-fill2 .ensures .stretch in
+    let filled = c .past-fill .ensures .stretch in
     omega (arith, nominal-far filled, nominal-inside filled (omega arith))
 
 loop-again : tie.Need-loop-again Inv-loop μ-loop
@@ -114,7 +114,7 @@ loop-again c =
     let voted = voted-of g (λ e. c .before .before .if3 .left (agree ∙ e)) in
     let sync : Byte p (k .at) SYNC = record { inside = omega arith; is = agreeing .before .if2 .left } in
     let there = group-at sync (omega arith) in
-    let filled = c .skip-fill2 .ensures in (
+    let filled = c .past-fill .ensures in (
       record {
         kept = λ i q f b. kept-group (k .inv .0 .kept i q f b) there voted (past-fill (filled .stretch)) (c .before .word .ensures voted) agree;
         has-room = record { room = omega arith; few = omega (arith, agree, agreement-few g, room .few) };
@@ -149,8 +149,8 @@ groups-spec =
     element-write-frame
     add-sums
     add-p
-    add-skip-fill
-    skip-fill-requires-2
+    add-past-fill
+    past-fill-requires
     loop-less
     loop-again
     returns-4)
