@@ -22,11 +22,11 @@ use Rattle.own_sync.proofs.Relocking.{own-once}
 use Rattle.own_reels.specs.AnyCut.{SameLeft}
 use Rattle.own_reels.proofs.AnyCut.{any-cut}
 use Rattle.reader.specs.Shapes.{callOf}
-use Rattle.feeding.specs.declared.relock.Feeder.{Feeder}
-use Rattle.feeding.specs.declared.relock.Relocked.{Relocked}
-use Rattle.feeding.specs.Relock.{Move, reads, asks, leads, move, moved, ledBy, callOn, callLed, refusedFeeder, RelockPromise, beginning}
+use Rattle.relocking.specs.declared.Feeder.{Feeder}
+use Rattle.relocking.specs.declared.Relocked.{Relocked}
+use Rattle.relocking.specs.Relock.{Move, reads, asks, leads, move, moved, ledBy, callOn, callLed, refusedFeeder, RelockPromise, beginning}
 use Rattle.feeding.proofs.CallLists.{paid-append, paid-none}
-use Rattle.feeding.proofs.ReadingReels.{relocked-append}
+use Rattle.relocking.proofs.ReadingReels.{relocked-append}
 use Rattle.reel_steps.specs.Steps.{Steps, no-step, step, AnySteps}
 
 -- ---- the operators

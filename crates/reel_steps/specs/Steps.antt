@@ -6,9 +6,9 @@ use mathlib.Core.List.{List, [], _∷_, _++_}
 use Prim.Native.Nat.{ℕ}
 use lib.ListN.{length, take}
 use Rattle.base.specs.Format.{majorFrame}
-use Rattle.feeding.specs.declared.relock.Feeder.{Feeder}
-use Rattle.feeding.specs.declared.relock.Relocked.{Relocked}
-use Rattle.feeding.specs.Relock.{RelockPromise, beginning}
+use Rattle.relocking.specs.declared.Feeder.{Feeder}
+use Rattle.relocking.specs.declared.Relocked.{Relocked}
+use Rattle.relocking.specs.Relock.{RelockPromise, beginning}
 
 -- `Steps f a bs ps f′ a′`: from f and a the steps have taken the bytes bs of the reel and completed the major frames ps, in order; f′ and a′ are left. Steps
 -- that are refused, that ask for more, and that are told that the reel ends are among them
