@@ -6,7 +6,7 @@ It writes crates/tally_limit/stdin. crates/tally_limit/stdout was written by han
 at its place, and that its refusal is what 01's and 02's clauses give, read here by other means than the library's.
 With --check it writes nothing and says whether the stored file is what it would write.
 
-A record is described in crates/tally_limit/src/main.rt; its numbers stand first byte highest."""
+A record is described in crates/tally_limit/src/main.rt; the first byte of a number is the highest."""
 import os
 import struct
 import stored
@@ -68,8 +68,8 @@ def record(call, name, line, t=None, value=0, piece=b"", keep=False):
     text, picks = (name + line[0]).encode(), bytes(NUMBERS.index(n) for n in line[1].split())
     assert len(text) <= 160 and len(piece) <= 16 and len(picks) <= 16
     own = t or fresh()
-    head = struct.pack(">4BHHQ", call, keep, t is not None, 0, len(text), len(piece), value) + picks.ljust(16, b"\0")
-    data = head + b"".join(struct.pack(">Q", own[c]) for c in COUNTS) + own["frame"] + text.ljust(160, b"\0") + piece.ljust(16, b"\0")
+    numbers = [call, keep, t is not None, len(text), len(piece), value] + [own[c] for c in COUNTS]
+    data = struct.pack(">39Q", *numbers) + own["frame"] + picks.ljust(16, b"\0") + text.ljust(160, b"\0") + piece.ljust(16, b"\0")
     rows.append((data, text.decode(), refusal(call, own, value, piece) if call == FRESH or call and t else None))
 
 
@@ -166,11 +166,11 @@ def sums():
     heading("voted + split = hunted + 128 * (good + damaged + unsynced) + placed")
     for n in 5, 6, 7:
         take("300 + 98 words, hunted %d + 128 * 3 + 8" % n,
-             fresh(bytes=1592, voted=300, split=98, good=1, damaged=1, unsynced=1, placed=8, loose=1, hunted=n) | {"hunting": 0})
+             fresh(bytes=1592, voted=300, split=98, good=1, damaged=1, unsynced=1, placed=8, loose=1, hunted=n, hunting=0))
     heading("good = 128 * majors + broken + loose + building")
     for n in 2, 3, 4:
         take("good 134, 128 * 1 + 1 + %d + 2" % n,
-             fresh(bytes=68620, voted=17155, hunted=3, good=134, majors=1, paid=(1,) + (0,) * 7, broken=1, building=2, loose=n) | {"hunting": 0})
+             fresh(bytes=68620, voted=17155, hunted=3, good=134, majors=1, paid=(1,) + (0,) * 7, broken=1, building=2, loose=n, hunting=0))
 
 
 def weak():
@@ -196,34 +196,33 @@ def weak():
 
 
 def places():
-    locked = {"hunting": 0}
     heading("open is at most 3")
     take("open 3", fresh(bytes=3, open=3))
     take("open 4", fresh(bytes=4, open=4))
     heading("placed is at most 127")
-    take("placed 127", fresh(bytes=520, voted=130, hunted=3, placed=127) | locked)
-    take("placed 128", fresh(bytes=524, voted=131, hunted=3, placed=128) | locked)
+    take("placed 127", fresh(bytes=520, voted=130, hunted=3, placed=127, hunting=0))
+    take("placed 128", fresh(bytes=524, voted=131, hunted=3, placed=128, hunting=0))
     heading("building is at most 127")
-    take("building 127", fresh(bytes=65036, voted=16259, hunted=3, good=127, building=127) | locked)
-    take("building 128", fresh(bytes=65548, voted=16387, hunted=3, good=128, building=128) | locked)
+    take("building 127", fresh(bytes=65036, voted=16259, hunted=3, good=127, building=127, hunting=0))
+    take("building 128", fresh(bytes=65548, voted=16387, hunted=3, good=128, building=128, hunting=0))
     heading("the match is at most 2, and 0 out of hunting")
     three = fresh(bytes=12, voted=3, hunted=3)
-    take("match 2", three | {"matched": 2})
-    take("match 3", three | {"matched": 3})
-    take("match 1 out of hunting", three | {"matched": 1} | locked)
-    take("match 0 out of hunting", three | locked)
+    take("match 2", dict(three, matched=2))
+    take("match 3", dict(three, matched=3))
+    take("match 1 out of hunting", dict(three, matched=1, hunting=0))
+    take("match 0 out of hunting", dict(three, hunting=0))
     heading("placed and building are 0 while hunting")
     one = fresh(bytes=4, voted=1, placed=1)
     take("placed 1 while hunting", one)
-    take("placed 1 out of hunting", one | locked)
+    take("placed 1 out of hunting", dict(one, hunting=0))
     frame = fresh(bytes=512, voted=128, good=1)
-    take("building 1 out of hunting", frame | {"building": 1} | locked)
-    take("building 1 while hunting", frame | {"building": 1})
-    take("building 0 while hunting", frame | {"broken": 1})
+    take("building 1 out of hunting", dict(frame, building=1, hunting=0))
+    take("building 1 while hunting", dict(frame, building=1))
+    take("building 0 while hunting", dict(frame, broken=1))
     heading("no hole is marked when placed is 0")
-    take("a hole, placed 0", fresh(erasure=1) | locked)
-    take("a hole, placed 1", fresh(erasure=1, bytes=4, split=1, placed=1) | locked)
-    take("no hole, placed 1", fresh(bytes=4, split=1, placed=1) | locked)
+    take("a hole, placed 0", fresh(erasure=1, hunting=0))
+    take("a hole, placed 1", fresh(erasure=1, bytes=4, split=1, placed=1, hunting=0))
+    take("no hole, placed 1", fresh(bytes=4, split=1, placed=1, hunting=0))
     heading("nothing is asked of the copies and the frame")
     take("any copies, any frame", fresh(first=0xFF, second=0xFE, frame=b"\xFD" * 128))
 

@@ -1,5 +1,7 @@
 // The calls, and what they answer.
+ghost use mathlib.Core.Path.{_≡_};
 ghost use Prim.Native.Nat.{_≤_};
+ghost use lib.ListN.{length};
 use labelling::Tally;
 
 // One more than an area has.
@@ -8,11 +10,11 @@ const MOST_ROOM: usize = 16385;
 // What the area holds before a call.
 const BEFORE: u8 = 0xA5;
 
-const TAKE: u8 = 1;
+const TAKE: u64 = 1;
 
-const CHANGE: u8 = 2;
+const CHANGE: u64 = 2;
 
-const FRESH: u8 = 3;
+const FRESH: u64 = 3;
 
 pub(crate) struct Answer {
     pub(crate) tally: Tally,
@@ -30,7 +32,7 @@ pub(crate) fn begun() -> Tally {
 }
 
 // The call of this number, with the room of the area, the operator or the rule; none for any other number.
-pub(crate) fn answered(call: u8, t: Tally, value: u64, piece: &[u8]) -> Answer {
+pub(crate) fn answered(call: u64, t: Tally, value: u64, piece: &[u8]) -> Answer {
     if call == TAKE {
         return taken(t, crate::shorter(value as usize, MOST_ROOM), piece);
     }
@@ -58,7 +60,7 @@ fn only(t: Tally, refusal: u8) -> Answer {
 fn taken(t: Tally, room: usize, piece: &[u8]) -> Answer
     requires { ⌜ room ≤ 16385 ⌝ }
 {
-    let mut space = [0xA5u8; 16385];
+    let mut space = blank();
     let area = &mut space[0..room];
     let a = reader::take(t, piece, &mut *area);
     let changed = vectors::others(area, BEFORE);
@@ -70,4 +72,11 @@ fn taken(t: Tally, room: usize, piece: &[u8]) -> Answer
         complete: vectors::bit(a.complete),
         changed: changed,
     }
+}
+
+// What is in the room before a call. Callers know only its length: a check that counted so many bytes one by one would take long.
+fn blank() -> [u8; 16385]
+    ensures { λ r. ⌜ 16385 ≡ length r ⌝ }
+{
+    [0xA5; 16385]
 }

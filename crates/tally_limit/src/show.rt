@@ -9,32 +9,31 @@ use labelling::Tally;
 use vectors::bit;
 use vectors::fields;
 
+// Who is on duty, among the numbers of a tally.
+const DUTY: usize = 31;
+
 pub(crate) fn line(form: &[u8], picks: &[u8], t: Tally, a: Answer)
     requires { ⌜ length (now picks) ≡ 16 ⌝ }
 {
     let u = a.tally;
-    let mut back = u;
-    back.operators.duty = t.operators.duty;
+    let f = t.frame;
+    let g = u.frame;
+    let framed = same_frame(&f, &g);
+    let before = numbers(t);
+    let after = numbers(u);
+    let mut back = after;
+    back[DUTY] = before[DUTY];
     let called = [
         a.refusal,
         a.taken,
         a.complete,
         a.changed,
-        bit(same(t, u)),
-        bit(same(t, back)),
+        bit(framed & alike(&before, &after)),
+        bit(framed & alike(&before, &back)),
     ];
-    let left = numbers(u);
     let mut shown = [0u64; 16];
-    pick(picks, &called, &left, &mut shown);
+    pick(picks, &called, &after, &mut shown);
     fields(form, &shown);
-}
-
-fn same(t: Tally, u: Tally) -> bool {
-    let f = t.frame;
-    let g = u.frame;
-    let a = numbers(t);
-    let b = numbers(u);
-    alike(&a, &b) & same_frame(&f, &g)
 }
 
 fn same_frame(a: &[u8; 128], b: &[u8; 128]) -> bool {

@@ -1,6 +1,4 @@
-// A tally of its numbers, eight bytes each, and its frame; and the numbers of a tally.
-ghost use mathlib.Core.Path.{_≡_};
-ghost use lib.ListN.{length};
+// The tally of a record, whose numbers are those from 6 on; and the numbers of a tally.
 use base::wide;
 use labelling::Framing;
 use labelling::Groups;
@@ -9,88 +7,68 @@ use labelling::Runs;
 use labelling::Tally;
 use labelling::Weak;
 use vectors::bit;
-use vectors::number;
 
-pub(crate) fn of(b: &[u8], frame: [u8; 128]) -> Tally
-    requires { ⌜ length (now b) ≡ 264 ⌝ }
-{
-    let g = groups(&b[0..88]);
-    let f = framing(&b[88..152]);
-    let r = runs(&b[152..184]);
-    let o = operators(&b[184..256]);
+pub(crate) fn of(n: [u64; 39], frame: [u8; 128]) -> Tally {
+    let g = groups(n);
+    let f = framing(n);
+    let r = runs(n);
+    let o = operators(n);
     Tally {
         groups: g,
         framing: f,
         runs: r,
         operators: o,
-        rule: number(&b[256..264]),
+        rule: n[38],
         frame: frame,
     }
 }
 
-fn groups(b: &[u8]) -> Groups
-    requires { ⌜ length (now b) ≡ 88 ⌝ }
-{
+fn groups(n: [u64; 39]) -> Groups {
     let weak = Weak {
-        first: number(&b[40..48]),
-        second: number(&b[48..56]),
-        third: number(&b[56..64]),
+        first: n[11],
+        second: n[12],
+        third: n[13],
     };
     Groups {
-        bytes: number(&b[0..8]),
-        fill: number(&b[8..16]),
-        stray: number(&b[16..24]),
-        voted: number(&b[24..32]),
-        split: number(&b[32..40]),
+        bytes: n[6],
+        fill: n[7],
+        stray: n[8],
+        voted: n[9],
+        split: n[10],
         weak: weak,
-        open: number(&b[64..72]),
-        first: b[79],
-        second: b[87],
+        open: n[14],
+        first: (n[15] % 256) as u8,
+        second: (n[16] % 256) as u8,
     }
 }
 
-fn framing(b: &[u8]) -> Framing
-    requires { ⌜ length (now b) ≡ 64 ⌝ }
-{
+fn framing(n: [u64; 39]) -> Framing {
     Framing {
-        hunted: number(&b[0..8]),
-        good: number(&b[8..16]),
-        damaged: number(&b[16..24]),
-        unsynced: number(&b[24..32]),
-        placed: number(&b[32..40]),
-        hunting: b[47] == 1,
-        matched: number(&b[48..56]),
-        erasure: b[63] == 1,
+        hunted: n[17],
+        good: n[18],
+        damaged: n[19],
+        unsynced: n[20],
+        placed: n[21],
+        hunting: n[22] == 1,
+        matched: n[23],
+        erasure: n[24] == 1,
     }
 }
 
-fn runs(b: &[u8]) -> Runs
-    requires { ⌜ length (now b) ≡ 32 ⌝ }
-{
+fn runs(n: [u64; 39]) -> Runs {
     Runs {
-        majors: number(&b[0..8]),
-        broken: number(&b[8..16]),
-        loose: number(&b[16..24]),
-        building: number(&b[24..32]),
+        majors: n[25],
+        broken: n[26],
+        loose: n[27],
+        building: n[28],
     }
 }
 
-fn operators(b: &[u8]) -> Operators
-    requires { ⌜ length (now b) ≡ 72 ⌝ }
-{
-    let paid = [
-        number(&b[0..8]),
-        number(&b[8..16]),
-        number(&b[16..24]),
-        number(&b[24..32]),
-        number(&b[32..40]),
-        number(&b[40..48]),
-        number(&b[48..56]),
-        number(&b[56..64]),
-    ];
+fn operators(n: [u64; 39]) -> Operators {
+    let paid = [n[29], n[30], n[31], n[32], n[33], n[34], n[35], n[36]];
     Operators {
         paid: paid,
-        duty: number(&b[64..72]),
+        duty: n[37],
     }
 }
 
