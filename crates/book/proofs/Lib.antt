@@ -1,9 +1,6 @@
 pub mod Said
-pub mod Places
+pub mod Headers
 pub mod Tests
-pub mod Stores
 pub mod Ways
-pub mod Placed
-pub mod Accepted
-pub mod Answers
 pub mod Viewing
+pub mod Holding

@@ -1,4 +1,4 @@
--- The tests of the code, by what they found: of a body, an instant, an offset, and of a length with no product that could wrap. Assumes nothing.
+-- The tests of the code, by what they found: of a body, an instant, an offset. Assumes nothing.
 use mathlib.Core.Path.{_≡_, refl, sym, ap, _∙_}
 use mathlib.Core.Bool.{Bool, true, false, not, _&&_, _||_}
 use mathlib.Core.List.{List}
@@ -9,9 +9,9 @@ use lib.ListN.{length, take, drop}
 use borrow.Author.Tests.{eq-eqb, ne-eqb, eqb-true, eqb-false, lt-ltb, le-ltb}
 use Rattle.base.proofs.Rows.{row-is}
 use Rattle.cycle.specs.Cycle.{instantOf, isCycle}
-use Rattle.book.specs.Layout.{bodyStart, bookLength, cyclesSaid, yearSaid, instantAt, offsetAt, bodyAt}
+use Rattle.book.specs.Layout.{bodyStart, cyclesSaid, yearSaid, instantAt, offsetAt, bodyAt}
 use Rattle.book.specs.Faults.{contents, falls, badInstant, badOffset}
-use Rattle.book.specs.Sought.{badRow, rowInstant, fallingRow}
+use Rattle.book.specs.Sought.{badRow}
 use Rattle.book.proofs.Said.{body-part}
 
 -- ---- bodies end to end
@@ -22,18 +22,6 @@ module _ (y : ℕ) (bodies : List ℕ) (i : ℕ) where
   pub row-tested : (r b : Bool) → r ≡ isCycle y part → not r ≡ b → badRow y bodies i ≡ b
   unfolding badRow
   row-tested r b e t = ap (λ (l : List ℕ). not (isCycle y l)) (sym (row-is 65536 bodies i)) ∙ ap not (sym e) ∙ t
-
-  pub row-instant : (t : ℕ) → t ≡ instantOf y part → t ≡ rowInstant y bodies i
-  unfolding rowInstant
-  row-instant t e = e ∙ ap (instantOf y) (row-is 65536 bodies i)
-
-  pub later-row : (t u : ℕ) → 0 < i → t ≡ rowInstant y bodies i → u ≡ rowInstant y bodies (i - 1) → leb t u ≡ fallingRow y bodies i
-  unfolding fallingRow
-  later-row t u h e f = rw (lt-ltb 0 i h, e, f)
-
-  pub first-row : i ≤ 0 → false ≡ fallingRow y bodies i
-  unfolding fallingRow
-  first-row h = rw (le-ltb 0 i h)
 
 -- ---- the entries of a book
 module _ (b : List ℕ) (i : ℕ) where
@@ -67,18 +55,3 @@ module _ (b : List ℕ) (i : ℕ) where
     pub same-offset : x ≡ s → badOffset (contents b) i ≡ false
     unfolding badOffset
     same-offset h = ap not (eq-eqb _ _ (sym stored ∙ h ∙ start-is))
-
--- ---- the length of a book of n cycles
-module _ (l n : ℕ) where
-  pub too-short : l < 4 → false ≡ eqb l (bookLength n)
-  too-short h = sym (ne-eqb l (bookLength n) (λ e. omega arith))
-
-  pub uneven : ((l - 4) % 65548 ≡ 0 → ⊥) → false ≡ eqb l (bookLength n)
-  uneven h = sym (ne-eqb l (bookLength n) (λ e. h (omega arith)))
-
-  pub even : 4 ≤ l → (l - 4) % 65548 ≡ 0 → eqb ((l - 4) / 65548) n ≡ eqb l (bookLength n)
-  even h e = go (eqb ((l - 4) / 65548) n) refl
-    where
-      go : (b : Bool) → eqb ((l - 4) / 65548) n ≡ b → b ≡ eqb l (bookLength n)
-      go true t = let q = eqb-true ((l - 4) / 65548) n t in sym (eq-eqb l (bookLength n) (omega arith))
-      go false f = sym (ne-eqb l (bookLength n) (λ q. eqb-false ((l - 4) / 65548) n f (omega arith)))

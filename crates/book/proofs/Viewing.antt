@@ -2,7 +2,7 @@
 use mathlib.Core.Path.{_≡_, refl, sym, ap, _∙_}
 use mathlib.Core.Bool.{Bool, true, false, not}
 use mathlib.Core.List.{List}
-use Prim.Native.Nat.{ℕ, _+_, _*_, _-_, _≤_, _<_}
+use Prim.Native.Nat.{ℕ, _+_, _*_, _-_, _/_, _≤_, _<_}
 use native.Mathlib.Omega.{arith}
 use lib.ListN.{length, take, drop, length-drop}
 use lib.Seq.{take-all}
@@ -35,28 +35,30 @@ module _ (b : List ℕ) (laid : Laid b) (n : ℕ) (count : n ≡ cyclesSaid b) w
   rest-is : rest ≡ drop (4 + 12 * n) b
   rest-is = take-all (length b - (4 + 12 * n)) (drop (4 + 12 * n) b) (omega (arith, length-drop (4 + 12 * n) b))
 
-  pub rest-length : 65536 * n ≤ length rest
-  rest-length = let s = has-size in omega (arith, ap length rest-is, length-drop (4 + 12 * n) b)
+  -- as many whole bodies as the book says
+  rest-count : length rest / 65536 ≡ n
+  rest-count = let s = has-size in omega (arith, ap length rest-is, length-drop (4 + 12 * n) b)
 
   module _ (y : ℕ) (year : y ≡ yearSaid b) where
     same-body : (i : ℕ) → badBody (contents b) i ≡ badRow y rest i
     unfolding badBody badRow
     same-body i = rw (rest-is, body-row b n i count, year)
 
-    low-body : lowest (badBody (contents b)) 0 (cyclesSaid b) ≡ lowest (badRow y rest) 0 n
+    low-body : lowest (badBody (contents b)) 0 (cyclesSaid b) ≡ lowest (badRow y rest) 0 (length rest / 65536)
     low-body =
         ap (lowest (badBody (contents b)) 0) (sym count) ∙ lowest-same (badBody (contents b)) (badRow y rest) 0 n (λ k a h. same-body k)
+        ∙ ap (lowest (badRow y rest) 0) (sym rest-count)
 
     -- the lowest entry with a fault, among as many as there are
     low : (bad : ℕ → Bool) (r : ℕ) → r ≡ lowest bad 0 n → r ≡ lowest bad 0 (cyclesSaid b)
     low bad r e = e ∙ ap (lowest bad 0) count
 
-    pub refused-17 : (r : ℕ) → r ≡ lowest (badRow y rest) 0 n → r < n → faultAt 17 r ≡ firstFault b
+    pub refused-17 : (r : ℕ) → r ≡ lowest (badRow y rest) 0 (length rest / 65536) → r < n → faultAt 17 r ≡ firstFault b
     refused-17 r e h =
         let f = low-body in
         rw (e ∙ sym f) (other-body (contents b) (laid .span) (laid .sized) (omega arith) ∙ long b (laid .header))
 
-    module _ (r : ℕ) (e : r ≡ lowest (badRow y rest) 0 n) (cycles : n ≤ r) where
+    module _ (r : ℕ) (e : r ≡ lowest (badRow y rest) 0 (length rest / 65536)) (cycles : n ≤ r) where
       all-cycles : cyclesSaid b ≤ lowest (badBody (contents b)) 0 (cyclesSaid b)
       all-cycles = let f = low-body in omega arith
 

@@ -1,6 +1,4 @@
 pub mod Layout
 pub mod Faults
-pub mod Writing
-pub mod Parts
+pub mod Header
 pub mod Sought
-pub mod Promise

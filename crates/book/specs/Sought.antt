@@ -1,13 +1,12 @@
 -- What the code looks at: bodies end to end as rows, and books of the right length. Definitions only.
 use mathlib.Core.Path.{_≡_}
-use mathlib.Core.Bool.{Bool, true, not, _&&_}
+use mathlib.Core.Bool.{Bool, true, not}
 use mathlib.Core.List.{List}
-use Prim.Native.Nat.{ℕ, _-_, _≤_}
-use lib.Dec.{leb, ltb}
+use Prim.Native.Nat.{ℕ, _≤_}
 use lib.ListN.{length}
 use Rattle.base.specs.Rows.{row}
 use Rattle.time_code.specs.Calendar.{inSpan}
-use Rattle.cycle.specs.Cycle.{cycleLength, instantOf, isCycle}
+use Rattle.cycle.specs.Cycle.{cycleLength, isCycle}
 use Rattle.book.specs.Layout.{headerLength, mostCycles, bookLength, cyclesSaid, yearSaid}
 use Rattle.book.specs.Faults.{contents, isSized}
 
@@ -16,13 +15,6 @@ use Rattle.book.specs.Faults.{contents, isSized}
 -- body i is no cycle of the year y
 unfoldable pub badRow : ℕ → List ℕ → ℕ → Bool
 badRow y bodies i = not (isCycle y (row cycleLength bodies i))
-
-unfoldable pub rowInstant : ℕ → List ℕ → ℕ → ℕ
-rowInstant y bodies i = instantOf y (row cycleLength bodies i)
-
--- its instant does not rise
-unfoldable pub fallingRow : ℕ → List ℕ → ℕ → Bool
-fallingRow y bodies i = ltb 0 i && leb (rowInstant y bodies i) (rowInstant y bodies (i - 1))
 
 -- ---- books
 

@@ -1,6 +1,6 @@
 // The faults of a book, in the order of paper 02: 16 for fewer than 4 bytes, 13, 16, 17, 18, 19.
 ghost use mathlib.Core.Path.{_≡_};
-ghost use Prim.Native.Nat.{_+_, _*_, _≤_, _<_};
+ghost use Prim.Native.Nat.{_/_, _≤_, _<_};
 ghost use lib.ListN.{length};
 ghost use Rattle.base.specs.Ranges.{lowest};
 ghost use Rattle.book.specs.Layout.{bodyStart, cyclesSaid, yearSaid};
@@ -71,7 +71,7 @@ fn first_entry_fault(bytes: &[u8]) -> FirstFault
     let n = fields::cycles_said(bytes);
     let year = fields::year_said(bytes);
     let start = HEADER + ENTRY * n;
-    let body = first_bad_body(year, &bytes[start..], n);
+    let body = first_bad_body(year, &bytes[start..]);
     if body < n {
         return fault_at(refusal::NOT_A_CYCLE, body);
     }
@@ -86,11 +86,11 @@ fn first_entry_fault(bytes: &[u8]) -> FirstFault
     fault_at(0, 0)
 }
 
-// The lowest of the n bodies end to end that is no cycle of the year; n where each is.
-pub(crate) fn first_bad_body(year: u64, bodies: &[u8], n: usize) -> usize
-    requires { ⌜ 65536 * n ≤ length (now bodies) ⌝ }
-    ensures { λ r. ⌜ r ≡ lowest (badRow year (now (bodies .entry))) 0 n ⌝ }
+// The lowest of the whole bodies end to end that is no cycle of the year; as many as they are where each is.
+pub fn first_bad_body(year: u64, bodies: &[u8]) -> usize
+    ensures { λ r. ⌜ r ≡ lowest (badRow year (now (bodies .entry))) 0 (length (now (bodies .entry)) / 65536) ⌝ }
 {
+    let n = bodies.len() / CYCLE;
     let mut i: usize = 0;
     while i < n {
         let start = CYCLE * i;
@@ -150,7 +150,7 @@ fn first_bad_offset(bytes: &[u8], n: usize) -> usize
 }
 
 // Where body i of n starts.
-pub(crate) fn body_start(n: usize, i: usize) -> u64
+fn body_start(n: usize, i: usize) -> u64
     requires { ⌜ (n ≤ 255) × (i ≤ n) ⌝ }
     ensures { λ r. ⌜ r ≡ bodyStart n i ⌝ }
 {

@@ -6,9 +6,10 @@ use native.Mathlib.Omega.{arith}
 use Rattle.base.specs.Refusal.{answered, refusal}
 use Rattle.base.proofs.Refusals.{Positive, refused-is, given-is}
 use Rattle.book.specs.declared.faults.FirstFault.{FirstFault}
-use Rattle.book.specs.declared.parts.Place.{Place}
+use Rattle.book_parts.specs.declared.Place.{Place}
 use Rattle.book.specs.Layout.{entryStart, bodyStart, cyclesSaid, yearSaid}
-use Rattle.book.specs.Parts.{headerLines, partLines, headerRefusal, partRefusal, countOf, yearOf, place, nowhere, entryPlace, bodyPlace}
+use Rattle.book.specs.Header.{headerLines, headerRefusal, countOf, yearOf}
+use Rattle.book_parts.specs.Parts.{partLines, partRefusal, place, nowhere, entryPlace, bodyPlace}
 use Rattle.book_check.specs.declared.Verdict.{Verdict}
 use Rattle.book_check.specs.Checking.{faultIn}
 use Rattle.book_check.specs.Promise.{CheckPromise}

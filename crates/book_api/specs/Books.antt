@@ -5,7 +5,8 @@ use Prim.Native.Nat.{ℕ}
 use Rattle.base.specs.Refusal.{answered}
 use Rattle.book.specs.Faults.{firstFault}
 use Rattle.book.specs.Layout.{entryLength, entryStart, bodyStart, cyclesSaid, yearSaid}
-use Rattle.book.specs.Parts.{headerLines, partLines, headerRefusal, partRefusal}
+use Rattle.book.specs.Header.{headerLines, headerRefusal}
+use Rattle.book_parts.specs.Parts.{partLines, partRefusal}
 use Rattle.cycle.specs.Cycle.{cycleLength}
 
 -- `pcd_book_check` of the book b returns r, and the lent place holds new afterwards: the first fault's number and its entry

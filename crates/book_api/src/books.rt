@@ -2,7 +2,7 @@
 // cross: where it lies crosses.
 ghost use mathlib.Core.Path.{_≡_};
 ghost use Rattle.book.specs.Faults.{viewRefusal};
-ghost use Rattle.book.specs.Promise.{WritePromise};
+ghost use Rattle.book_writer.specs.Promise.{WritePromise};
 ghost use Rattle.book_api.specs.Books.{CheckCrossed, HeaderCrossed, EntryCrossed, BodyCrossed};
 use book_check::Verdict;
 
@@ -11,7 +11,7 @@ use book_check::Verdict;
 pub extern "C" fn pcd_book_write(year: u64, bodies: &[u8], out: &mut [u8]) -> u8
     ensures { λ r. ⌜ WritePromise year (now (bodies .entry)) (now (out .entry)) (now (out .exit)) r ⌝ }
 {
-    book::write(year, bodies, out)
+    book_writer::write(year, bodies, out)
 }
 
 // Why a view of the bytes holds nothing, 0 where it holds the book.
@@ -58,11 +58,11 @@ pub extern "C" fn pcd_book_header(book: &[u8], out: &mut [u64; 2]) -> u8
 pub extern "C" fn pcd_book_entry(book: &[u8], i: u64, out: &mut [u64; 2]) -> u8
     ensures { λ r. ⌜ EntryCrossed (now (book .entry)) i r (now (out .entry)) (now (out .exit)) ⌝ }
 {
-    let number = book::part_refusal(book, i);
+    let number = book_parts::part_refusal(book, i);
     if number != 0 {
         return number;
     }
-    let place = book::entry_place(book, i);
+    let place = book_parts::entry_place(book, i);
     *out = [place.start as u64, place.length as u64];
     0
 }
@@ -72,11 +72,11 @@ pub extern "C" fn pcd_book_entry(book: &[u8], i: u64, out: &mut [u64; 2]) -> u8
 pub extern "C" fn pcd_book_body(book: &[u8], i: u64, out: &mut [u64; 2]) -> u8
     ensures { λ r. ⌜ BodyCrossed (now (book .entry)) i r (now (out .entry)) (now (out .exit)) ⌝ }
 {
-    let number = book::part_refusal(book, i);
+    let number = book_parts::part_refusal(book, i);
     if number != 0 {
         return number;
     }
-    let place = book::body_place(book, i);
+    let place = book_parts::body_place(book, i);
     *out = [place.start as u64, place.length as u64];
     0
 }

@@ -23,10 +23,11 @@ use Rattle.cycle.specs.Cycle.{instantOf, isCycle}
 use Rattle.book.specs.Layout.{bodyStart, bookLength, entry, book, bytesAt, cyclesSaid, yearSaid, entryStart, instantAt, offsetAt, bodyAt, cyclesOf}
 use Rattle.book.specs.Faults.{contents, contentsOf, isSized, badBody, falls, badInstant, badOffset, faults, linesOf, viewRefusal}
 use Rattle.book.specs.Sought.{Sized}
-use Rattle.book.specs.Writing.{bodiesIn, writeLines, writeRefusal, writeAfter}
+use Rattle.book_writer.specs.Writing.{bodiesIn, writeLines, writeRefusal, writeAfter}
 use Rattle.book.proofs.Ways.{number, Sound, sound-none, none-sound}
-use Rattle.book.proofs.Said.{sized, body-row}
-use Rattle.book.proofs.Accepted.{accepted}
+use Rattle.book.proofs.Said.{body-row}
+use Rattle.book.proofs.Holding.{sound, size}
+use Rattle.book_writer.proofs.Accepted.{accepted}
 use Rattle.book_check.specs.Checking.{Given}
 
 -- ---- lists
@@ -57,17 +58,6 @@ number-at b bytes start width h =
 
 -- ---- a book without a fault
 module _ (b : List ℕ) (none : viewRefusal b ≡ 0) where
-  begun : (4 ≤ length b) × (number (contents b) ≡ 0)
-  unfolding viewRefusal
-  begun = go (ltb (length b) 4) refl none
-    where
-      go : (t : Bool) → ltb (length b) 4 ≡ t → _≡_ {A = ℕ} (cond t 16 (number (contents b))) 0 → (4 ≤ length b) × (number (contents b) ≡ 0)
-      go true e z = absurd (omega arith)
-      go false e z = (ltb-false (length b) 4 e, z)
-
-  pub sound : Sound (contents b)
-  sound = none-sound (contents b) (begun .1)
-
   abbrev n : ℕ
   n = cyclesSaid b
 
@@ -76,9 +66,6 @@ module _ (b : List ℕ) (none : viewRefusal b ≡ 0) where
 
   abbrev cs : List (List ℕ)
   cs = cyclesOf b
-
-  pub size : Sized b n
-  size = sized b (sound .sized)
 
   pub count : length cs ≡ n
   unfolding cyclesOf
@@ -90,11 +77,11 @@ module _ (b : List ℕ) (none : viewRefusal b ≡ 0) where
 
   offset-is : (i : ℕ) → i < n → offsetAt b i ≡ bodyStart n i
   unfolding badOffset
-  offset-is i h = eqb-true (offsetAt b i) (bodyStart n i) (not-false (eqb (offsetAt b i) (bodyStart n i)) (sound .offsets i h))
+  offset-is i h = eqb-true (offsetAt b i) (bodyStart n i) (not-false (eqb (offsetAt b i) (bodyStart n i)) (sound b none .offsets i h))
 
   pub instant-is : (i : ℕ) → i < n → instantAt b i ≡ instantOf y (bodyAt b i)
   unfolding badInstant
-  instant-is i h = go (eqb (instantAt b i) (instantOf y (bodyAt b i))) refl (falls (contents b) i) (sound .instants i h)
+  instant-is i h = go (eqb (instantAt b i) (instantOf y (bodyAt b i))) refl (falls (contents b) i) (sound b none .instants i h)
     where
       go : (p : Bool) → eqb (instantAt b i) (instantOf y (bodyAt b i)) ≡ p → (q : Bool) → (not p || q) ≡ false
           → instantAt b i ≡ instantOf y (bodyAt b i)
@@ -104,17 +91,17 @@ module _ (b : List ℕ) (none : viewRefusal b ≡ 0) where
   -- ---- the same faults are none of the year and the cycles
   small : isSized (contentsOf y cs) ≡ true
   unfolding isSized
-  small = rw count (le-leb n 255 (size .few))
+  small = rw count (le-leb n 255 (size b none .few))
 
   whole : (i : ℕ) → i < n → badBody (contentsOf y cs) i ≡ false
   unfolding badBody
-  whole i h = rw (cycle-is i h) (sound .bodies i h)
+  whole i h = rw (cycle-is i h) (sound b none .bodies i h)
 
   rises : (i : ℕ) → i < n → badInstant (contentsOf y cs) i ≡ false
   unfolding badInstant falls
   rises i h =
       rw (cycle-is i h, cycle-is (i - 1) (omega arith))
-      (rw (instant-is i h, instant-is (i - 1) (omega arith)) at (sound .instants i h))
+      (rw (instant-is i h, instant-is (i - 1) (omega arith)) at (sound b none .instants i h))
 
   starts : (i : ℕ) → badOffset (contentsOf y cs) i ≡ false
   unfolding badOffset
@@ -124,7 +111,7 @@ module _ (b : List ℕ) (none : viewRefusal b ≡ 0) where
   writable =
       let c = count in
       record {
-        span = sound .span;
+        span = sound b none .span;
         sized = small;
         bodies = λ i h. whole i (omega arith);
         instants = λ i h. rises i (omega arith);
@@ -136,7 +123,7 @@ module _ (b : List ℕ) (none : viewRefusal b ≡ 0) where
     entry-is : (i : ℕ) → i < n → bytesAt (entryStart i) 12 b ≡ entry y cs i
     unfolding entry instantAt offsetAt
     entry-is i h =
-        let s = size in
+        let s = size b none in
         let start = entryStart i in
         let instant : bytesAt start 8 b ≡ bytesOf 8 (instantOf y (getD cs i [])) =
         number-at b bytes start 8 (omega arith) ∙ ap (bytesOf 8) (instant-is i h ∙ ap (instantOf y) (sym (cycle-is i h))) in
@@ -151,7 +138,7 @@ module _ (b : List ℕ) (none : viewRefusal b ≡ 0) where
     after = drop 4 b
 
     after-length : length after ≡ 65548 * n
-    after-length = let s = size in omega (arith, length-drop 4 b)
+    after-length = let s = size b none in omega (arith, length-drop 4 b)
 
     entries-are : take (12 * n) after ≡ joined (entry y cs) 0 n
     entries-are =
@@ -173,7 +160,7 @@ module _ (b : List ℕ) (none : viewRefusal b ≡ 0) where
     pub is-book : b ≡ book y cs
     unfolding book cyclesSaid yearSaid
     is-book =
-        let s = size in
+        let s = size b none in
         let many : take 2 b ≡ bytesOf 2 n = number-at b bytes 0 2 (omega arith) in
         let year : take 2 (drop 2 b) ≡ bytesOf 2 y = number-at b bytes 2 2 (omega arith) in
         let rest : after ≡ joined (entry y cs) 0 n ++ joined (λ i. getD cs i []) 0 n =
@@ -192,7 +179,7 @@ module _ (b : List ℕ) (none : viewRefusal b ≡ 0) where
     bodies = drop (4 + 12 * n) b
 
     bodies-length : length bodies ≡ 65536 * n
-    bodies-length = let s = size in omega (arith, length-drop (4 + 12 * n) b)
+    bodies-length = let s = size b none in omega (arith, length-drop (4 + 12 * n) b)
 
     cycles-in : bodiesIn bodies ≡ cs
     unfolding rows cyclesOf
@@ -205,7 +192,7 @@ module _ (b : List ℕ) (none : viewRefusal b ≡ 0) where
     unfolding writeRefusal writeAfter
     is-given =
         let even : length bodies % 65536 ≡ 0 = let l = bodies-length in omega arith in
-        let fits : length b ≡ bookLength (length cs) = size .long ∙ ap bookLength (sym count) in
+        let fits : length b ≡ bookLength (length cs) = size b none .long ∙ ap bookLength (sym count) in
         let clear : number (contentsOf y cs) ≡ 0 = sym (sound-none (contentsOf y cs) writable) in
         let none-holds : refusal (writeLines y bodies b) ≡ 0 =
         rw (even, cycles-in, eq-eqb (length b) (bookLength (length cs)) fits) clear in

@@ -6,7 +6,7 @@ use Prim.Native.Nat.{ℕ}
 use lib.Dec.{eqb}
 use Rattle.book.specs.declared.faults.FirstFault.{FirstFault}
 use Rattle.book.specs.Faults.{faultAt, firstFault}
-use Rattle.book.specs.Writing.{writeRefusal, writeAfter}
+use Rattle.book_writer.specs.Writing.{writeRefusal, writeAfter}
 use Rattle.book_check.specs.declared.Verdict.{Verdict}
 use Rattle.book_check.specs.declared.Verdict.the-variants.{Accepted, Faulty}
 

@@ -1,5 +1,5 @@
 pub mod FirstByte
-pub mod Held
+pub mod Rising
 pub mod Listing
 pub mod Merging
 pub mod Promises

@@ -15,13 +15,14 @@ use Rattle.base.specs.Lists.{concatMap}
 use Rattle.base.specs.Ranges.{tabulate}
 use Rattle.base.proofs.Lists.{concatMap-append}
 use Rattle.book.specs.Layout.{cyclesSaid, instantAt, bodyAt}
+use Rattle.book_parts.specs.Parts.{Entered}
 use Rattle.book_compare.specs.declared.merge.Step.{Step}
 use Rattle.book_compare.specs.Differences.{Cycle, cycleAt, Difference, onlyFirst, onlySecond, inBoth, firstDiffering}
 use Rattle.book_compare.specs.Answer.{numbers, listed}
 use Rattle.book_compare.specs.Merge.{together, against, merged, cyclesFrom, mergedFrom, stepTo, noLine, lineOf, linesOf, pastBoth, stepNumbers}
-use Rattle.book_compare.specs.Merge.{Entered, Placed, Stepped, PutPromise}
+use Rattle.book_compare.specs.Merge.{Placed, Stepped, PutPromise}
 use Rattle.book_compare.proofs.FirstByte.{differing-le, same-list, differs-nowhere}
-use Rattle.book_compare.proofs.Held.{body-length}
+use Rattle.book_parts.proofs.Held.{body-length}
 
 -- ---- the cycles from i on
 module _ (b : List ℕ) (i : ℕ) where

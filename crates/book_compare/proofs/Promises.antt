@@ -14,7 +14,7 @@ use Rattle.base.proofs.Numbers.{Bytes}
 use Rattle.base.proofs.Refusals.{NoneHolds, answered-of, answered-none, answered-given}
 use Rattle.book.specs.Layout.{book, cyclesSaid, yearSaid, bodyAt, cyclesOf}
 use Rattle.book.specs.Faults.{viewRefusal}
-use Rattle.book.specs.Parts.{yearOf}
+use Rattle.book.specs.Header.{yearOf}
 use Rattle.book_check.proofs.Wholes.{is-book}
 use Rattle.book_compare.specs.declared.Compared.{Compared}
 use Rattle.book_compare.specs.declared.Compared.the-variants.{Lines, Refused}
@@ -22,7 +22,10 @@ use Rattle.book_compare.specs.Differences.{Cycle, cycleAt, cyclesIn, Dif
 use Rattle.book_compare.specs.Answer.{tableLength, faultOf, compareLines, listed, values, valuesOf}
 use Rattle.book_compare.specs.Merge.{merged, cyclesFrom, mergedFrom, Placed, PutPromise}
 use Rattle.book_compare.specs.Promise.{SameBooks, ComparePromise}
-use Rattle.book_compare.proofs.Held.{year-is, has-size, entered, body-length, instants-rise}
+use Rattle.book.proofs.Headers.{year-is}
+use Rattle.book.proofs.Holding.{has-size}
+use Rattle.book_parts.proofs.Held.{entered, body-length}
+use Rattle.book_compare.proofs.Rising.{instants-rise}
 use Rattle.book_compare.proofs.Listing.{listed-right, listed-rises, one-list}
 use Rattle.book_compare.proofs.Merging.{AllWide, same-cycles, self-none}
 

@@ -8,7 +8,7 @@ use lib.ListN.{length, getD}
 use Rattle.base.specs.Ranges.{tabulate}
 use Rattle.cycle.specs.Cycle.{cycleLength}
 use Rattle.book.specs.Layout.{cyclesSaid}
-use Rattle.book.specs.Parts.{hasSize}
+use Rattle.book.specs.Header.{hasSize}
 use Rattle.book_compare.specs.declared.merge.Step.{Step}
 use Rattle.book_compare.specs.Differences.{Cycle, Difference, cycleAt, onlyFirst, onlySecond, inBoth, firstDiffering}
 use Rattle.book_compare.specs.Answer.{numbers, listed}
@@ -43,11 +43,6 @@ abbrev pub mergedFrom : List ℕ → List ℕ → ℕ → ℕ → List Differenc
 mergedFrom a b i j = merged (cyclesFrom a i) (cyclesFrom b j)
 
 -- ---- a step of it
-
--- a book that has its length has an entry i
-pub record Entered (b : List ℕ) (i : ℕ) : Type 0 where
-  pub sized : hasSize b ≡ true
-  pub below : i < cyclesSaid b
 
 -- both books have their length, and cycles i and j are to come, or none is
 pub record Placed (a b : List ℕ) (i j : ℕ) : Type 0 where

@@ -4,11 +4,11 @@ ghost use mathlib.Core.List.{_++_};
 ghost use Prim.Native.Nat.{_+_, _*_, _≤_, _<_};
 ghost use lib.ListN.{length, take, drop};
 ghost use Rattle.book.specs.Layout.{cyclesSaid, instantAt};
+ghost use Rattle.book_parts.specs.Parts.{Entered};
 ghost use Rattle.book_compare.specs.Differences.{onlyFirst, onlySecond};
 ghost use Rattle.book_compare.specs.Answer.{tableLength};
-ghost use Rattle.book_compare.specs.Merge.{Entered, Placed, stepTo, pastBoth, stepNumbers, Stepped, PutPromise};
+ghost use Rattle.book_compare.specs.Merge.{Placed, stepTo, pastBoth, stepNumbers, Stepped, PutPromise};
 use crate::bodies;
-use base::big_endian;
 use cycle::CYCLE;
 
 // The cases of a line.
@@ -64,10 +64,10 @@ fn next_step(first: &[u8], second: &[u8], i: u64, j: u64) -> Step
     ensures { λ r. ⌜ Stepped (now (first .entry)) (now (second .entry)) i j r ⌝ }
 {
     if i == book::cycles(first) {
-        return past_second(i, j, instant(second, j));
+        return past_second(i, j, book_parts::instant(second, j));
     }
     if j == book::cycles(second) {
-        return past_first(i, j, instant(first, i));
+        return past_first(i, j, book_parts::instant(first, i));
     }
     step_both(first, second, i, j)
 }
@@ -77,16 +77,16 @@ fn step_both(first: &[u8], second: &[u8], i: u64, j: u64) -> Step
     requires { ⌜ Entered (now first) i × Entered (now second) j ⌝ }
     ensures { λ r. ⌜ Stepped (now (first .entry)) (now (second .entry)) i j r ⌝ }
 {
-    let s = instant(first, i);
-    let t = instant(second, j);
+    let s = book_parts::instant(first, i);
+    let t = book_parts::instant(second, j);
     if s < t {
         return past_first(i, j, s);
     }
     if t < s {
         return past_second(i, j, t);
     }
-    let c = book::body(first, i);
-    let d = book::body(second, j);
+    let c = book_parts::body(first, i);
+    let d = book_parts::body(second, j);
     past_both(i, j, s, bodies::first_differing(c, d))
 }
 
@@ -137,13 +137,4 @@ fn past_both(i: u64, j: u64, instant: u64, place: usize) -> Step
         case: IN_BOTH,
         place: place as u64,
     }
-}
-
-// The instant of entry i.
-fn instant(bytes: &[u8], i: u64) -> u64
-    requires { ⌜ Entered (now bytes) i ⌝ }
-    ensures { λ r. ⌜ r ≡ instantAt (now (bytes .entry)) i ⌝ }
-{
-    let entry = book::entry(bytes, i);
-    big_endian::read(&entry[0..8])
 }

@@ -179,7 +179,7 @@ fn write(bodies: &[u8], n: usize, year: u64, book: &mut [u8]) -> bool {
     }
     field(
         b"write ",
-        book::write(year, &bodies[0..n], &mut book[0..length]) as u64,
+        book_writer::write(year, &bodies[0..n], &mut book[0..length]) as u64,
     );
     field(b" sum ", vectors::checksum(&book[0..length]));
     put(b"\n");
@@ -229,11 +229,11 @@ fn parts(area: &[u8], n: usize, i: u64) -> bool {
 
 // By the slice, with the places.
 fn put_parts(bytes: &[u8], i: u64) {
-    field(b"part ", book::part_refusal(bytes, i) as u64);
-    field(b" entry ", book::entry_place(bytes, i).start as u64);
-    put_entry(book::entry(bytes, i));
-    field(b" body ", book::body_place(bytes, i).start as u64);
-    put_body_sum(book::body(bytes, i));
+    field(b"part ", book_parts::part_refusal(bytes, i) as u64);
+    field(b" entry ", book_parts::entry_place(bytes, i).start as u64);
+    put_entry(book_parts::entry(bytes, i));
+    field(b" body ", book_parts::body_place(bytes, i).start as u64);
+    put_body_sum(book_parts::body(bytes, i));
 }
 
 // Through a view.

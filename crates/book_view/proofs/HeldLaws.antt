@@ -10,10 +10,10 @@ use lib.Seq.{take-length}
 use denote.Ref.{RefT, now, ptr}
 use borrow.Author.Tests.{eq-eqb, ne-eqb}
 use borrow.Rule.Slice.Shared.{byByte}
-use Rattle.book.specs.declared.parts.Place.{Place}
+use Rattle.book_parts.specs.declared.Place.{Place}
 use Rattle.book.specs.Layout.{bytesAt}
 use Rattle.book.specs.Faults.{viewRefusal}
-use Rattle.book.specs.Parts.{place, nowhere, IsPart}
+use Rattle.book_parts.specs.Parts.{place, nowhere, IsPart}
 use Rattle.book_view.specs.Held.{heldPlace, heldOf}
 
 -- ---- what is held

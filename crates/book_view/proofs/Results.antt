@@ -17,8 +17,8 @@ use denote.Ref.{RefT, now}
 use denote.Signature.{plain, Slot, typeAt}
 use denote.Slice.{sliceTy, shr-slice-lawful}
 use contract.Lifetimes.{Lfts}
-use Rattle.book.specs.declared.parts.Place.{Place}
-use Rattle.book.specs.Parts.{nowhere, IsPart}
+use Rattle.book_parts.specs.declared.Place.{Place}
+use Rattle.book_parts.specs.Parts.{nowhere, IsPart}
 use Rattle.book_view.specs.Held.{heldOf}
 use Rattle.book_view.specs.declared.Book.{Book}
 use Rattle.book_view.proofs.HeldLaws.{now-held, part-through}

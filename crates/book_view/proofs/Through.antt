@@ -36,7 +36,7 @@ use denote.Triple.Spec.{Meets, tripleOf}
 use denote.Triple.Walked.{says, Stays, stay-none, stay-none-slice, walkOf, goes-none, goes-none-slice, Walks, ends-at, walked, walk-meets}
 use denote.Exit.{yes}
 use denote.Triple.Clauses.{Ended, Clauses, ensured, lasts, closing}
-use Rattle.book.specs.Parts.{IsPart}
+use Rattle.book_parts.specs.Parts.{IsPart}
 use Rattle.book_view.specs.Held.{heldPlace}
 use Rattle.book_view.specs.declared.Book.{Book}
 use Rattle.book_view.proofs.Book as T

@@ -4,9 +4,9 @@ use mathlib.Core.List.{List, []}
 use Prim.Native.Nat.{ℕ}
 use lib.Dec.{eqb}
 use lib.ListN.{length}
-use Rattle.book.specs.declared.parts.Place.{Place}
+use Rattle.book_parts.specs.declared.Place.{Place}
 use Rattle.book.specs.Faults.{viewRefusal}
-use Rattle.book.specs.Parts.{place, nowhere}
+use Rattle.book_parts.specs.Parts.{place, nowhere}
 
 -- the book, from its first byte to its last; nothing where it is refused
 unfoldable pub heldPlace : List ℕ → Place

@@ -2,7 +2,8 @@
 // view holds nothing. The functions that have a view stand in this crate alone: each takes it apart and calls the function of `book`
 // on the slice. Callers with a slice and a number use `entry_of`, `body_of` and `part_refusal_of`, whose contracts say nothing of a view.
 ghost use mathlib.Core.Path.{_≡_};
-ghost use Rattle.book.specs.Parts.{countOf, yearOf, partRefusal, entryPlace, bodyPlace, IsPart};
+ghost use Rattle.book.specs.Header.{countOf, yearOf};
+ghost use Rattle.book_parts.specs.Parts.{partRefusal, entryPlace, bodyPlace, IsPart};
 ghost use Rattle.book_view.specs.Held.{heldOf, heldPlace};
 
 // The bytes that it remembers.
@@ -31,21 +32,21 @@ fn held(bytes: &[u8]) -> &[u8]
 pub fn entry<'a>(book: Book<'a>, i: u64) -> &'a [u8]
     ensures { λ r. ⌜ IsPart r (book .entry .bytes) (entryPlace (now (book .entry .bytes)) i) ⌝ }
 {
-    book::entry(book.bytes, i)
+    book_parts::entry(book.bytes, i)
 }
 
 // The 65,536 bytes of body i; an empty part where it is refused.
 pub fn body<'a>(book: Book<'a>, i: u64) -> &'a [u8]
     ensures { λ r. ⌜ IsPart r (book .entry .bytes) (bodyPlace (now (book .entry .bytes)) i) ⌝ }
 {
-    book::body(book.bytes, i)
+    book_parts::body(book.bytes, i)
 }
 
 // 0, or why `entry` and `body` hand out an empty part. 16: the view holds no book. 20: no entry i.
 pub fn part_refusal<'a>(book: Book<'a>, i: u64) -> u8
     ensures { λ r. ⌜ r ≡ partRefusal (now (book .entry .bytes)) i ⌝ }
 {
-    book::part_refusal(book.bytes, i)
+    book_parts::part_refusal(book.bytes, i)
 }
 
 // The number of cycles; 0 where the view holds nothing.

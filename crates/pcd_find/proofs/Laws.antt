@@ -9,8 +9,9 @@ use lib.Seq.{take-suc-set}
 use Rattle.base.specs.Ranges.{tabulate}
 use Rattle.book.specs.Faults.{viewRefusal}
 use Rattle.book.specs.Layout.{cyclesSaid, instantAt}
-use Rattle.book.specs.Parts.{countOf}
-use Rattle.book_compare.proofs.Held.{count-is, few-cycles, has-size}
+use Rattle.book.specs.Header.{countOf}
+use Rattle.book.proofs.Headers.{count-is, few-cycles}
+use Rattle.book.proofs.Holding.{has-size}
 use Rattle.command.proofs.TextLaws.{counted}
 use Rattle.pcd_find.specs.Answers.{InstantsPromise}
 

@@ -2,11 +2,8 @@
 ghost use mathlib.Core.Path.{_≡_};
 ghost use lib.ListN.{length, getD};
 ghost use Rattle.book.specs.Faults.{viewRefusal};
-ghost use Rattle.book.specs.Layout.{instantAt};
-ghost use Rattle.book_compare.specs.Merge.{Entered};
 ghost use Rattle.command.specs.Text.{Adds};
 ghost use Rattle.pcd_find.specs.Answers.{answerLine, foundText, noneText, refusedText, InstantsPromise};
-use base::big_endian;
 use command::put;
 use command::put_field;
 use lookup::Found;
@@ -35,19 +32,10 @@ fn put_instants(book: &[u8], out: &mut [u64]) -> usize
     let n = book::cycles(book) as usize;
     let mut i: usize = 0;
     while i < n {
-        out[i] = instant(book, i as u64);
+        out[i] = book_parts::instant(book, i as u64);
         i += 1;
     }
     n
-}
-
-// The instant of entry i.
-fn instant(book: &[u8], i: u64) -> u64
-    requires { ⌜ Entered (now book) i ⌝ }
-    ensures { λ r. ⌜ r ≡ instantAt (now (book .entry)) i ⌝ }
-{
-    let entry = book::entry(book, i);
-    big_endian::read(&entry[0..8])
 }
 
 fn show_answer(instants: &[u64], wanted: u64) -> bool {

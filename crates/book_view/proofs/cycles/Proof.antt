@@ -3,7 +3,7 @@
 use contract.Running.{givenOf, tables, tablesOf}
 use denote.Triple.Spec.{tripleOf}
 use denote.Triple.Table.{entered, cited}
-use Rattle.book.specs.Parts.{countOf}
+use Rattle.book.specs.Header.{countOf}
 use Rattle.book_view.proofs.Told.{Callee, meets}
 use Rattle.book_view.proofs.Results.{number-slot, number-type, number-typed, NumberSays}
 use Rattle.book.proofs.cycles.Symbol as callee-def

@@ -2,7 +2,7 @@
 use contract.Running.{givenOf, tables, tablesOf}
 use denote.Triple.Spec.{tripleOf}
 use denote.Triple.Table.{entered, cited}
-use Rattle.book.specs.Parts.{countOf}
+use Rattle.book.specs.Header.{countOf}
 use Rattle.book_view.proofs.Through.{View}
 use Rattle.book_view.proofs.ToldThrough.{Handed, meets}
 use Rattle.book_view.proofs.Results.{number-slot, number-type, number-typed, NumberSays, NumberFinal, number-follows}

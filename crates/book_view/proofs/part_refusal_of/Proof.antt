@@ -11,7 +11,7 @@ use contract.Lifetimes.{Lfts}
 use contract.Running.{givenOf, tables, tablesOf}
 use denote.Triple.Spec.{tripleOf}
 use denote.Triple.Table.{entered, cited}
-use Rattle.book.specs.Parts.{partRefusal}
+use Rattle.book_parts.specs.Parts.{partRefusal}
 use Rattle.book_view.specs.Held.{heldOf}
 use Rattle.book_view.specs.declared.Book.{Book}
 use Rattle.book_view.proofs.HeldLaws.{now-held}

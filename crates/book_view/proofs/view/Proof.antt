@@ -38,7 +38,7 @@ use denote.Triple.Table.{entered, cited}
 use denote.Triple.Walked.{says, Stays, stay-none-slice, walkOf, goes-none-slice, Walks, ends-at, walked, walk-meets}
 use denote.Exit.{yes}
 use denote.Triple.Clauses.{ensured, lasts}
-use Rattle.book.specs.Parts.{IsPart}
+use Rattle.book_parts.specs.Parts.{IsPart}
 use Rattle.book_view.specs.Held.{heldPlace}
 use Rattle.book_view.specs.declared.Book.{Book}
 use Rattle.book_view.proofs.Book as T

@@ -29,580 +29,9 @@ abbrev check-from-below : ℕ → In 0 check-from-kinds.ps
 check-from-below t =
     and 0 check-from-kinds.ps (falls 0 check-from-kinds.ps _<_ μ-check-from t) check-from.Pre
 
-check-from-returns : (t : ℕ) → check-from-lts.Need-returns (
-  buffer-reads.Asked,
-  buffer-reads.Learnt,
-  arg-reads.Asked,
-  arg-reads.Learnt,
-  open-read-reads.Asked,
-  open-read-reads.Learnt,
-  begin-book-reads.Asked,
-  begin-book-reads.Learnt,
-  in-small-room-reads.Asked,
-  in-small-room-reads.Learnt,
-  in-large-room-reads.Asked,
-  in-large-room-reads.Learnt,
-  close-reads.Asked,
-  close-reads.Learnt,
-  check-from-below t,
-  check-from.Post,
-) (check-from-at t) check-from.Post
-check-from-returns t c = search needs
-
-check-from-buffer-requires : (t : ℕ) → check-from-lts.Need-buffer-requires (
-  buffer-reads.Asked,
-  buffer-reads.Learnt,
-  arg-reads.Asked,
-  arg-reads.Learnt,
-  open-read-reads.Asked,
-  open-read-reads.Learnt,
-  begin-book-reads.Asked,
-  begin-book-reads.Learnt,
-  in-small-room-reads.Asked,
-  in-small-room-reads.Learnt,
-  in-large-room-reads.Asked,
-  in-large-room-reads.Learnt,
-  close-reads.Asked,
-  close-reads.Learnt,
-  check-from-below t,
-  check-from.Post,
-) (check-from-at t) check-from.Post
-check-from-buffer-requires t c κs = tt
-
-check-from-slice-aggregate-arg : (t : ℕ) → check-from-lts.Need-slice-aggregate-arg (
-  buffer-reads.Asked,
-  buffer-reads.Learnt,
-  arg-reads.Asked,
-  arg-reads.Learnt,
-  open-read-reads.Asked,
-  open-read-reads.Learnt,
-  begin-book-reads.Asked,
-  begin-book-reads.Learnt,
-  in-small-room-reads.Asked,
-  in-small-room-reads.Learnt,
-  in-large-room-reads.Asked,
-  in-large-room-reads.Learnt,
-  close-reads.Asked,
-  close-reads.Learnt,
-  check-from-below t,
-  check-from.Post,
-) (check-from-at t) check-from.Post
-check-from-slice-aggregate-arg t c = search needs
-
-check-from-arg-requires : (t : ℕ) → check-from-lts.Need-arg-requires (
-  buffer-reads.Asked,
-  buffer-reads.Learnt,
-  arg-reads.Asked,
-  arg-reads.Learnt,
-  open-read-reads.Asked,
-  open-read-reads.Learnt,
-  begin-book-reads.Asked,
-  begin-book-reads.Learnt,
-  in-small-room-reads.Asked,
-  in-small-room-reads.Learnt,
-  in-large-room-reads.Asked,
-  in-large-room-reads.Learnt,
-  close-reads.Asked,
-  close-reads.Learnt,
-  check-from-below t,
-  check-from.Post,
-) (check-from-at t) check-from.Post
-check-from-arg-requires t c κs = tt
-
-check-from-array-share-prefix-space : (t : ℕ) → check-from-lts.Need-array-share-prefix-space (
-  buffer-reads.Asked,
-  buffer-reads.Learnt,
-  arg-reads.Asked,
-  arg-reads.Learnt,
-  open-read-reads.Asked,
-  open-read-reads.Learnt,
-  begin-book-reads.Asked,
-  begin-book-reads.Learnt,
-  in-small-room-reads.Asked,
-  in-small-room-reads.Learnt,
-  in-large-room-reads.Asked,
-  in-large-room-reads.Learnt,
-  close-reads.Asked,
-  close-reads.Learnt,
-  check-from-below t,
-  check-from.Post,
-) (check-from-at t) check-from.Post
-check-from-array-share-prefix-space t c = search needs
-
-check-from-slice-aggregate-open-read : (t : ℕ) → check-from-lts.Need-slice-aggregate-open-read (
-  buffer-reads.Asked,
-  buffer-reads.Learnt,
-  arg-reads.Asked,
-  arg-reads.Learnt,
-  open-read-reads.Asked,
-  open-read-reads.Learnt,
-  begin-book-reads.Asked,
-  begin-book-reads.Learnt,
-  in-small-room-reads.Asked,
-  in-small-room-reads.Learnt,
-  in-large-room-reads.Asked,
-  in-large-room-reads.Learnt,
-  close-reads.Asked,
-  close-reads.Learnt,
-  check-from-below t,
-  check-from.Post,
-) (check-from-at t) check-from.Post
-check-from-slice-aggregate-open-read t c = search needs
-
-check-from-open-read-requires : (t : ℕ) → check-from-lts.Need-open-read-requires (
-  buffer-reads.Asked,
-  buffer-reads.Learnt,
-  arg-reads.Asked,
-  arg-reads.Learnt,
-  open-read-reads.Asked,
-  open-read-reads.Learnt,
-  begin-book-reads.Asked,
-  begin-book-reads.Learnt,
-  in-small-room-reads.Asked,
-  in-small-room-reads.Learnt,
-  in-large-room-reads.Asked,
-  in-large-room-reads.Learnt,
-  close-reads.Asked,
-  close-reads.Learnt,
-  check-from-below t,
-  check-from.Post,
-) (check-from-at t) check-from.Post
-check-from-open-read-requires t c κs = tt
-
-check-from-slice-aggregate-begin-book : (t : ℕ) → check-from-lts.Need-slice-aggregate-begin-book (
-  buffer-reads.Asked,
-  buffer-reads.Learnt,
-  arg-reads.Asked,
-  arg-reads.Learnt,
-  open-read-reads.Asked,
-  open-read-reads.Learnt,
-  begin-book-reads.Asked,
-  begin-book-reads.Learnt,
-  in-small-room-reads.Asked,
-  in-small-room-reads.Learnt,
-  in-large-room-reads.Asked,
-  in-large-room-reads.Learnt,
-  close-reads.Asked,
-  close-reads.Learnt,
-  check-from-below t,
-  check-from.Post,
-) (check-from-at t) check-from.Post
-check-from-slice-aggregate-begin-book t c = search needs
-
-check-from-array-share-prefix-space-2 : (t : ℕ) → check-from-lts.Need-array-share-prefix-space-2 (
-  buffer-reads.Asked,
-  buffer-reads.Learnt,
-  arg-reads.Asked,
-  arg-reads.Learnt,
-  open-read-reads.Asked,
-  open-read-reads.Learnt,
-  begin-book-reads.Asked,
-  begin-book-reads.Learnt,
-  in-small-room-reads.Asked,
-  in-small-room-reads.Learnt,
-  in-large-room-reads.Asked,
-  in-large-room-reads.Learnt,
-  close-reads.Asked,
-  close-reads.Learnt,
-  check-from-below t,
-  check-from.Post,
-) (check-from-at t) check-from.Post
-check-from-array-share-prefix-space-2 t c = search needs
-
-check-from-slice-aggregate-begin-book-2 :
-    (t : ℕ) → check-from-lts.Need-slice-aggregate-begin-book-2 (
-      buffer-reads.Asked,
-      buffer-reads.Learnt,
-      arg-reads.Asked,
-      arg-reads.Learnt,
-      open-read-reads.Asked,
-      open-read-reads.Learnt,
-      begin-book-reads.Asked,
-      begin-book-reads.Learnt,
-      in-small-room-reads.Asked,
-      in-small-room-reads.Learnt,
-      in-large-room-reads.Asked,
-      in-large-room-reads.Learnt,
-      close-reads.Asked,
-      close-reads.Learnt,
-      check-from-below t,
-      check-from.Post,
-    ) (check-from-at t) check-from.Post
-check-from-slice-aggregate-begin-book-2 t c = search needs
-
-check-from-begin-book-requires : (t : ℕ) → check-from-lts.Need-begin-book-requires (
-  buffer-reads.Asked,
-  buffer-reads.Learnt,
-  arg-reads.Asked,
-  arg-reads.Learnt,
-  open-read-reads.Asked,
-  open-read-reads.Learnt,
-  begin-book-reads.Asked,
-  begin-book-reads.Learnt,
-  in-small-room-reads.Asked,
-  in-small-room-reads.Learnt,
-  in-large-room-reads.Asked,
-  in-large-room-reads.Learnt,
-  close-reads.Asked,
-  close-reads.Learnt,
-  check-from-below t,
-  check-from.Post,
-) (check-from-at t) check-from.Post
-check-from-begin-book-requires t c κs = tt
-
-check-from-enum-told : (t : ℕ) → check-from-lts.Need-enum-told (
-  buffer-reads.Asked,
-  buffer-reads.Learnt,
-  arg-reads.Asked,
-  arg-reads.Learnt,
-  open-read-reads.Asked,
-  open-read-reads.Learnt,
-  begin-book-reads.Asked,
-  begin-book-reads.Learnt,
-  in-small-room-reads.Asked,
-  in-small-room-reads.Learnt,
-  in-large-room-reads.Asked,
-  in-large-room-reads.Learnt,
-  close-reads.Asked,
-  close-reads.Learnt,
-  check-from-below t,
-  check-from.Post,
-) (check-from-at t) check-from.Post
-check-from-enum-told t c = search needs
-
-check-from-enum-told-2 : (t : ℕ) → check-from-lts.Need-enum-told-2 (
-  buffer-reads.Asked,
-  buffer-reads.Learnt,
-  arg-reads.Asked,
-  arg-reads.Learnt,
-  open-read-reads.Asked,
-  open-read-reads.Learnt,
-  begin-book-reads.Asked,
-  begin-book-reads.Learnt,
-  in-small-room-reads.Asked,
-  in-small-room-reads.Learnt,
-  in-large-room-reads.Asked,
-  in-large-room-reads.Learnt,
-  close-reads.Asked,
-  close-reads.Learnt,
-  check-from-below t,
-  check-from.Post,
-) (check-from-at t) check-from.Post
-check-from-enum-told-2 t c = search needs
-
-check-from-array-share-prefix-space-3 : (t : ℕ) → check-from-lts.Need-array-share-prefix-space-3 (
-  buffer-reads.Asked,
-  buffer-reads.Learnt,
-  arg-reads.Asked,
-  arg-reads.Learnt,
-  open-read-reads.Asked,
-  open-read-reads.Learnt,
-  begin-book-reads.Asked,
-  begin-book-reads.Learnt,
-  in-small-room-reads.Asked,
-  in-small-room-reads.Learnt,
-  in-large-room-reads.Asked,
-  in-large-room-reads.Learnt,
-  close-reads.Asked,
-  close-reads.Learnt,
-  check-from-below t,
-  check-from.Post,
-) (check-from-at t) check-from.Post
-check-from-array-share-prefix-space-3 t c = search needs
-
-check-from-slice-aggregate-in-small-room :
-    (t : ℕ) → check-from-lts.Need-slice-aggregate-in-small-room (
-      buffer-reads.Asked,
-      buffer-reads.Learnt,
-      arg-reads.Asked,
-      arg-reads.Learnt,
-      open-read-reads.Asked,
-      open-read-reads.Learnt,
-      begin-book-reads.Asked,
-      begin-book-reads.Learnt,
-      in-small-room-reads.Asked,
-      in-small-room-reads.Learnt,
-      in-large-room-reads.Asked,
-      in-large-room-reads.Learnt,
-      close-reads.Asked,
-      close-reads.Learnt,
-      check-from-below t,
-      check-from.Post,
-    ) (check-from-at t) check-from.Post
-check-from-slice-aggregate-in-small-room t c = search needs
-
-check-from-array-share-prefix-header : (t : ℕ) → check-from-lts.Need-array-share-prefix-header (
-  buffer-reads.Asked,
-  buffer-reads.Learnt,
-  arg-reads.Asked,
-  arg-reads.Learnt,
-  open-read-reads.Asked,
-  open-read-reads.Learnt,
-  begin-book-reads.Asked,
-  begin-book-reads.Learnt,
-  in-small-room-reads.Asked,
-  in-small-room-reads.Learnt,
-  in-large-room-reads.Asked,
-  in-large-room-reads.Learnt,
-  close-reads.Asked,
-  close-reads.Learnt,
-  check-from-below t,
-  check-from.Post,
-) (check-from-at t) check-from.Post
-check-from-array-share-prefix-header t c = search needs
-
-check-from-slice-aggregate-in-small-room-2 :
-    (t : ℕ) → check-from-lts.Need-slice-aggregate-in-small-room-2 (
-      buffer-reads.Asked,
-      buffer-reads.Learnt,
-      arg-reads.Asked,
-      arg-reads.Learnt,
-      open-read-reads.Asked,
-      open-read-reads.Learnt,
-      begin-book-reads.Asked,
-      begin-book-reads.Learnt,
-      in-small-room-reads.Asked,
-      in-small-room-reads.Learnt,
-      in-large-room-reads.Asked,
-      in-large-room-reads.Learnt,
-      close-reads.Asked,
-      close-reads.Learnt,
-      check-from-below t,
-      check-from.Post,
-    ) (check-from-at t) check-from.Post
-check-from-slice-aggregate-in-small-room-2 t c = search needs
-
-check-from-in-small-room-requires : (t : ℕ) → check-from-lts.Need-in-small-room-requires (
-  buffer-reads.Asked,
-  buffer-reads.Learnt,
-  arg-reads.Asked,
-  arg-reads.Learnt,
-  open-read-reads.Asked,
-  open-read-reads.Learnt,
-  begin-book-reads.Asked,
-  begin-book-reads.Learnt,
-  in-small-room-reads.Asked,
-  in-small-room-reads.Learnt,
-  in-large-room-reads.Asked,
-  in-large-room-reads.Learnt,
-  close-reads.Asked,
-  close-reads.Learnt,
-  check-from-below t,
-  check-from.Post,
-) (check-from-at t) check-from.Post
-check-from-in-small-room-requires t c κs = tt
-
-check-from-enum-told-3 : (t : ℕ) → check-from-lts.Need-enum-told-3 (
-  buffer-reads.Asked,
-  buffer-reads.Learnt,
-  arg-reads.Asked,
-  arg-reads.Learnt,
-  open-read-reads.Asked,
-  open-read-reads.Learnt,
-  begin-book-reads.Asked,
-  begin-book-reads.Learnt,
-  in-small-room-reads.Asked,
-  in-small-room-reads.Learnt,
-  in-large-room-reads.Asked,
-  in-large-room-reads.Learnt,
-  close-reads.Asked,
-  close-reads.Learnt,
-  check-from-below t,
-  check-from.Post,
-) (check-from-at t) check-from.Post
-check-from-enum-told-3 t c = search needs
-
-check-from-array-share-prefix-space-4 : (t : ℕ) → check-from-lts.Need-array-share-prefix-space-4 (
-  buffer-reads.Asked,
-  buffer-reads.Learnt,
-  arg-reads.Asked,
-  arg-reads.Learnt,
-  open-read-reads.Asked,
-  open-read-reads.Learnt,
-  begin-book-reads.Asked,
-  begin-book-reads.Learnt,
-  in-small-room-reads.Asked,
-  in-small-room-reads.Learnt,
-  in-large-room-reads.Asked,
-  in-large-room-reads.Learnt,
-  close-reads.Asked,
-  close-reads.Learnt,
-  check-from-below t,
-  check-from.Post,
-) (check-from-at t) check-from.Post
-check-from-array-share-prefix-space-4 t c = search needs
-
-check-from-slice-aggregate-in-large-room :
-    (t : ℕ) → check-from-lts.Need-slice-aggregate-in-large-room (
-      buffer-reads.Asked,
-      buffer-reads.Learnt,
-      arg-reads.Asked,
-      arg-reads.Learnt,
-      open-read-reads.Asked,
-      open-read-reads.Learnt,
-      begin-book-reads.Asked,
-      begin-book-reads.Learnt,
-      in-small-room-reads.Asked,
-      in-small-room-reads.Learnt,
-      in-large-room-reads.Asked,
-      in-large-room-reads.Learnt,
-      close-reads.Asked,
-      close-reads.Learnt,
-      check-from-below t,
-      check-from.Post,
-    ) (check-from-at t) check-from.Post
-check-from-slice-aggregate-in-large-room t c = search needs
-
-check-from-array-share-prefix-header-2 : (t : ℕ) → check-from-lts.Need-array-share-prefix-header-2 (
-  buffer-reads.Asked,
-  buffer-reads.Learnt,
-  arg-reads.Asked,
-  arg-reads.Learnt,
-  open-read-reads.Asked,
-  open-read-reads.Learnt,
-  begin-book-reads.Asked,
-  begin-book-reads.Learnt,
-  in-small-room-reads.Asked,
-  in-small-room-reads.Learnt,
-  in-large-room-reads.Asked,
-  in-large-room-reads.Learnt,
-  close-reads.Asked,
-  close-reads.Learnt,
-  check-from-below t,
-  check-from.Post,
-) (check-from-at t) check-from.Post
-check-from-array-share-prefix-header-2 t c = search needs
-
-check-from-slice-aggregate-in-large-room-2 :
-    (t : ℕ) → check-from-lts.Need-slice-aggregate-in-large-room-2 (
-      buffer-reads.Asked,
-      buffer-reads.Learnt,
-      arg-reads.Asked,
-      arg-reads.Learnt,
-      open-read-reads.Asked,
-      open-read-reads.Learnt,
-      begin-book-reads.Asked,
-      begin-book-reads.Learnt,
-      in-small-room-reads.Asked,
-      in-small-room-reads.Learnt,
-      in-large-room-reads.Asked,
-      in-large-room-reads.Learnt,
-      close-reads.Asked,
-      close-reads.Learnt,
-      check-from-below t,
-      check-from.Post,
-    ) (check-from-at t) check-from.Post
-check-from-slice-aggregate-in-large-room-2 t c = search needs
-
-check-from-in-large-room-requires : (t : ℕ) → check-from-lts.Need-in-large-room-requires (
-  buffer-reads.Asked,
-  buffer-reads.Learnt,
-  arg-reads.Asked,
-  arg-reads.Learnt,
-  open-read-reads.Asked,
-  open-read-reads.Learnt,
-  begin-book-reads.Asked,
-  begin-book-reads.Learnt,
-  in-small-room-reads.Asked,
-  in-small-room-reads.Learnt,
-  in-large-room-reads.Asked,
-  in-large-room-reads.Learnt,
-  close-reads.Asked,
-  close-reads.Learnt,
-  check-from-below t,
-  check-from.Post,
-) (check-from-at t) check-from.Post
-check-from-in-large-room-requires t c κs = tt
-
-check-from-close-requires : (t : ℕ) → check-from-lts.Need-close-requires (
-  buffer-reads.Asked,
-  buffer-reads.Learnt,
-  arg-reads.Asked,
-  arg-reads.Learnt,
-  open-read-reads.Asked,
-  open-read-reads.Learnt,
-  begin-book-reads.Asked,
-  begin-book-reads.Learnt,
-  in-small-room-reads.Asked,
-  in-small-room-reads.Learnt,
-  in-large-room-reads.Asked,
-  in-large-room-reads.Learnt,
-  close-reads.Asked,
-  close-reads.Learnt,
-  check-from-below t,
-  check-from.Post,
-) (check-from-at t) check-from.Post
-check-from-close-requires t c κs = tt
-
-check-from-add-check-from : (t : ℕ) → check-from-lts.Need-add-check-from (
-  buffer-reads.Asked,
-  buffer-reads.Learnt,
-  arg-reads.Asked,
-  arg-reads.Learnt,
-  open-read-reads.Asked,
-  open-read-reads.Learnt,
-  begin-book-reads.Asked,
-  begin-book-reads.Learnt,
-  in-small-room-reads.Asked,
-  in-small-room-reads.Learnt,
-  in-large-room-reads.Asked,
-  in-large-room-reads.Learnt,
-  close-reads.Asked,
-  close-reads.Learnt,
-  check-from-below t,
-  check-from.Post,
-) (check-from-at t) check-from.Post
-check-from-add-check-from t c = search needs
-
-check-from-check-from-requires : (t : ℕ) → check-from-lts.Need-check-from-requires (
-  buffer-reads.Asked,
-  buffer-reads.Learnt,
-  arg-reads.Asked,
-  arg-reads.Learnt,
-  open-read-reads.Asked,
-  open-read-reads.Learnt,
-  begin-book-reads.Asked,
-  begin-book-reads.Learnt,
-  in-small-room-reads.Asked,
-  in-small-room-reads.Learnt,
-  in-large-room-reads.Asked,
-  in-large-room-reads.Learnt,
-  close-reads.Asked,
-  close-reads.Learnt,
-  check-from-below t,
-  check-from.Post,
-) (check-from-at t) check-from.Post
-check-from-check-from-requires t c κs =
-    let judged = c .before .before .before in
-    let begun = judged .before .before .before in
-    let opened = begun .before .before .before .before in
-    let start = opened .before .before .before in
-    let left : start .args .count - start .args .i ≡ t = start .pre .0 in
-    let less : start .args .count - (start .args .i + 1) < t = omega arith in
-    (less, tt)
-
-check-from-returns-2 : (t : ℕ) → check-from-lts.Need-returns-2 (
-  buffer-reads.Asked,
-  buffer-reads.Learnt,
-  arg-reads.Asked,
-  arg-reads.Learnt,
-  open-read-reads.Asked,
-  open-read-reads.Learnt,
-  begin-book-reads.Asked,
-  begin-book-reads.Learnt,
-  in-small-room-reads.Asked,
-  in-small-room-reads.Learnt,
-  in-large-room-reads.Asked,
-  in-large-room-reads.Learnt,
-  close-reads.Asked,
-  close-reads.Learnt,
-  check-from-below t,
-  check-from.Post,
-) (check-from-at t) check-from.Post
-check-from-returns-2 t c = search needs
-
-pub +check-from-spec : {M : Type 1} → statement M
-+check-from-spec = close μ-check-from λ t. check-from-lts.spec (
+-- what the calls in its body ask and tell, itself among them
+abbrev calls : ℕ → check-from-lts.Claims
+calls t = (
   buffer-reads.Asked,
   buffer-reads.Learnt,
   arg-reads.Asked,
@@ -620,8 +49,105 @@ pub +check-from-spec : {M : Type 1} → statement M
   check-from-below t,
   check-from.Post,
 )
-    (check-from-at t)
-    check-from.Post
+
+check-from-returns : (t : ℕ) → check-from-lts.Need-returns (calls t) (check-from-at t) check-from.Post
+check-from-returns t c = search needs
+
+check-from-buffer-requires : (t : ℕ) → check-from-lts.Need-buffer-requires (calls t) (check-from-at t) check-from.Post
+check-from-buffer-requires t c κs = tt
+
+check-from-slice-aggregate-arg : (t : ℕ) → check-from-lts.Need-slice-aggregate-arg (calls t) (check-from-at t) check-from.Post
+check-from-slice-aggregate-arg t c = search needs
+
+check-from-arg-requires : (t : ℕ) → check-from-lts.Need-arg-requires (calls t) (check-from-at t) check-from.Post
+check-from-arg-requires t c κs = tt
+
+check-from-array-share-prefix-space : (t : ℕ) → check-from-lts.Need-array-share-prefix-space (calls t) (check-from-at t) check-from.Post
+check-from-array-share-prefix-space t c = search needs
+
+check-from-slice-aggregate-open-read : (t : ℕ) → check-from-lts.Need-slice-aggregate-open-read (calls t) (check-from-at t) check-from.Post
+check-from-slice-aggregate-open-read t c = search needs
+
+check-from-open-read-requires : (t : ℕ) → check-from-lts.Need-open-read-requires (calls t) (check-from-at t) check-from.Post
+check-from-open-read-requires t c κs = tt
+
+check-from-slice-aggregate-begin-book : (t : ℕ) → check-from-lts.Need-slice-aggregate-begin-book (calls t) (check-from-at t) check-from.Post
+check-from-slice-aggregate-begin-book t c = search needs
+
+check-from-array-share-prefix-space-2 : (t : ℕ) → check-from-lts.Need-array-share-prefix-space-2 (calls t) (check-from-at t) check-from.Post
+check-from-array-share-prefix-space-2 t c = search needs
+
+check-from-slice-aggregate-begin-book-2 :
+    (t : ℕ) → check-from-lts.Need-slice-aggregate-begin-book-2 (calls t) (check-from-at t) check-from.Post
+check-from-slice-aggregate-begin-book-2 t c = search needs
+
+check-from-begin-book-requires : (t : ℕ) → check-from-lts.Need-begin-book-requires (calls t) (check-from-at t) check-from.Post
+check-from-begin-book-requires t c κs = tt
+
+check-from-enum-told : (t : ℕ) → check-from-lts.Need-enum-told (calls t) (check-from-at t) check-from.Post
+check-from-enum-told t c = search needs
+
+check-from-enum-told-2 : (t : ℕ) → check-from-lts.Need-enum-told-2 (calls t) (check-from-at t) check-from.Post
+check-from-enum-told-2 t c = search needs
+
+check-from-array-share-prefix-space-3 : (t : ℕ) → check-from-lts.Need-array-share-prefix-space-3 (calls t) (check-from-at t) check-from.Post
+check-from-array-share-prefix-space-3 t c = search needs
+
+check-from-slice-aggregate-in-small-room :
+    (t : ℕ) → check-from-lts.Need-slice-aggregate-in-small-room (calls t) (check-from-at t) check-from.Post
+check-from-slice-aggregate-in-small-room t c = search needs
+
+check-from-array-share-prefix-header : (t : ℕ) → check-from-lts.Need-array-share-prefix-header (calls t) (check-from-at t) check-from.Post
+check-from-array-share-prefix-header t c = search needs
+
+check-from-slice-aggregate-in-small-room-2 :
+    (t : ℕ) → check-from-lts.Need-slice-aggregate-in-small-room-2 (calls t) (check-from-at t) check-from.Post
+check-from-slice-aggregate-in-small-room-2 t c = search needs
+
+check-from-in-small-room-requires : (t : ℕ) → check-from-lts.Need-in-small-room-requires (calls t) (check-from-at t) check-from.Post
+check-from-in-small-room-requires t c κs = tt
+
+check-from-enum-told-3 : (t : ℕ) → check-from-lts.Need-enum-told-3 (calls t) (check-from-at t) check-from.Post
+check-from-enum-told-3 t c = search needs
+
+check-from-array-share-prefix-space-4 : (t : ℕ) → check-from-lts.Need-array-share-prefix-space-4 (calls t) (check-from-at t) check-from.Post
+check-from-array-share-prefix-space-4 t c = search needs
+
+check-from-slice-aggregate-in-large-room :
+    (t : ℕ) → check-from-lts.Need-slice-aggregate-in-large-room (calls t) (check-from-at t) check-from.Post
+check-from-slice-aggregate-in-large-room t c = search needs
+
+check-from-array-share-prefix-header-2 : (t : ℕ) → check-from-lts.Need-array-share-prefix-header-2 (calls t) (check-from-at t) check-from.Post
+check-from-array-share-prefix-header-2 t c = search needs
+
+check-from-slice-aggregate-in-large-room-2 :
+    (t : ℕ) → check-from-lts.Need-slice-aggregate-in-large-room-2 (calls t) (check-from-at t) check-from.Post
+check-from-slice-aggregate-in-large-room-2 t c = search needs
+
+check-from-in-large-room-requires : (t : ℕ) → check-from-lts.Need-in-large-room-requires (calls t) (check-from-at t) check-from.Post
+check-from-in-large-room-requires t c κs = tt
+
+check-from-close-requires : (t : ℕ) → check-from-lts.Need-close-requires (calls t) (check-from-at t) check-from.Post
+check-from-close-requires t c κs = tt
+
+check-from-add-check-from : (t : ℕ) → check-from-lts.Need-add-check-from (calls t) (check-from-at t) check-from.Post
+check-from-add-check-from t c = search needs
+
+check-from-check-from-requires : (t : ℕ) → check-from-lts.Need-check-from-requires (calls t) (check-from-at t) check-from.Post
+check-from-check-from-requires t c κs =
+    let judged = c .before .before .before in
+    let begun = judged .before .before .before in
+    let opened = begun .before .before .before .before in
+    let start = opened .before .before .before in
+    let left : start .args .count - start .args .i ≡ t = start .pre .0 in
+    let less : start .args .count - (start .args .i + 1) < t = omega arith in
+    (less, tt)
+
+check-from-returns-2 : (t : ℕ) → check-from-lts.Need-returns-2 (calls t) (check-from-at t) check-from.Post
+check-from-returns-2 t c = search needs
+
+pub +check-from-spec : {M : Type 1} → statement M
++check-from-spec = close μ-check-from λ t. check-from-lts.spec (calls t) (check-from-at t) check-from.Post
     (check-from-returns t)
     (check-from-buffer-requires t)
     (check-from-slice-aggregate-arg t)

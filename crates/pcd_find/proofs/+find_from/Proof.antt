@@ -28,659 +28,9 @@ abbrev find-from-below : ℕ → In 0 find-from-kinds.ps
 find-from-below t =
     and 0 find-from-kinds.ps (falls 0 find-from-kinds.ps _<_ μ-find-from t) find-from.Pre
 
-find-from-returns : (t : ℕ) → find-from-lts.Need-returns (
-  buffer-reads.Asked,
-  buffer-reads.Learnt,
-  arg-reads.Asked,
-  arg-reads.Learnt,
-  open-read-reads.Asked,
-  open-read-reads.Learnt,
-  begin-book-reads.Asked,
-  begin-book-reads.Learnt,
-  in-small-room-reads.Asked,
-  in-small-room-reads.Learnt,
-  in-large-room-reads.Asked,
-  in-large-room-reads.Learnt,
-  close-reads.Asked,
-  close-reads.Learnt,
-  find-from-below t,
-  find-from.Post,
-) (find-from-at t) find-from.Post
-find-from-returns t c = search needs
-
-find-from-sub-if2 : (t : ℕ) → find-from-lts.Need-sub-if2 (
-  buffer-reads.Asked,
-  buffer-reads.Learnt,
-  arg-reads.Asked,
-  arg-reads.Learnt,
-  open-read-reads.Asked,
-  open-read-reads.Learnt,
-  begin-book-reads.Asked,
-  begin-book-reads.Learnt,
-  in-small-room-reads.Asked,
-  in-small-room-reads.Learnt,
-  in-large-room-reads.Asked,
-  in-large-room-reads.Learnt,
-  close-reads.Asked,
-  close-reads.Learnt,
-  find-from-below t,
-  find-from.Post,
-) (find-from-at t) find-from.Post
-find-from-sub-if2 t c = search needs
-
-find-from-returns-2 : (t : ℕ) → find-from-lts.Need-returns-2 (
-  buffer-reads.Asked,
-  buffer-reads.Learnt,
-  arg-reads.Asked,
-  arg-reads.Learnt,
-  open-read-reads.Asked,
-  open-read-reads.Learnt,
-  begin-book-reads.Asked,
-  begin-book-reads.Learnt,
-  in-small-room-reads.Asked,
-  in-small-room-reads.Learnt,
-  in-large-room-reads.Asked,
-  in-large-room-reads.Learnt,
-  close-reads.Asked,
-  close-reads.Learnt,
-  find-from-below t,
-  find-from.Post,
-) (find-from-at t) find-from.Post
-find-from-returns-2 t c = search needs
-
-find-from-buffer-requires : (t : ℕ) → find-from-lts.Need-buffer-requires (
-  buffer-reads.Asked,
-  buffer-reads.Learnt,
-  arg-reads.Asked,
-  arg-reads.Learnt,
-  open-read-reads.Asked,
-  open-read-reads.Learnt,
-  begin-book-reads.Asked,
-  begin-book-reads.Learnt,
-  in-small-room-reads.Asked,
-  in-small-room-reads.Learnt,
-  in-large-room-reads.Asked,
-  in-large-room-reads.Learnt,
-  close-reads.Asked,
-  close-reads.Learnt,
-  find-from-below t,
-  find-from.Post,
-) (find-from-at t) find-from.Post
-find-from-buffer-requires t c κs = tt
-
-find-from-slice-aggregate-arg : (t : ℕ) → find-from-lts.Need-slice-aggregate-arg (
-  buffer-reads.Asked,
-  buffer-reads.Learnt,
-  arg-reads.Asked,
-  arg-reads.Learnt,
-  open-read-reads.Asked,
-  open-read-reads.Learnt,
-  begin-book-reads.Asked,
-  begin-book-reads.Learnt,
-  in-small-room-reads.Asked,
-  in-small-room-reads.Learnt,
-  in-large-room-reads.Asked,
-  in-large-room-reads.Learnt,
-  close-reads.Asked,
-  close-reads.Learnt,
-  find-from-below t,
-  find-from.Post,
-) (find-from-at t) find-from.Post
-find-from-slice-aggregate-arg t c = search needs
-
-find-from-arg-requires : (t : ℕ) → find-from-lts.Need-arg-requires (
-  buffer-reads.Asked,
-  buffer-reads.Learnt,
-  arg-reads.Asked,
-  arg-reads.Learnt,
-  open-read-reads.Asked,
-  open-read-reads.Learnt,
-  begin-book-reads.Asked,
-  begin-book-reads.Learnt,
-  in-small-room-reads.Asked,
-  in-small-room-reads.Learnt,
-  in-large-room-reads.Asked,
-  in-large-room-reads.Learnt,
-  close-reads.Asked,
-  close-reads.Learnt,
-  find-from-below t,
-  find-from.Post,
-) (find-from-at t) find-from.Post
-find-from-arg-requires t c κs = tt
-
-find-from-array-share-prefix-space : (t : ℕ) → find-from-lts.Need-array-share-prefix-space (
-  buffer-reads.Asked,
-  buffer-reads.Learnt,
-  arg-reads.Asked,
-  arg-reads.Learnt,
-  open-read-reads.Asked,
-  open-read-reads.Learnt,
-  begin-book-reads.Asked,
-  begin-book-reads.Learnt,
-  in-small-room-reads.Asked,
-  in-small-room-reads.Learnt,
-  in-large-room-reads.Asked,
-  in-large-room-reads.Learnt,
-  close-reads.Asked,
-  close-reads.Learnt,
-  find-from-below t,
-  find-from.Post,
-) (find-from-at t) find-from.Post
-find-from-array-share-prefix-space t c = search needs
-
-find-from-slice-aggregate-open-read : (t : ℕ) → find-from-lts.Need-slice-aggregate-open-read (
-  buffer-reads.Asked,
-  buffer-reads.Learnt,
-  arg-reads.Asked,
-  arg-reads.Learnt,
-  open-read-reads.Asked,
-  open-read-reads.Learnt,
-  begin-book-reads.Asked,
-  begin-book-reads.Learnt,
-  in-small-room-reads.Asked,
-  in-small-room-reads.Learnt,
-  in-large-room-reads.Asked,
-  in-large-room-reads.Learnt,
-  close-reads.Asked,
-  close-reads.Learnt,
-  find-from-below t,
-  find-from.Post,
-) (find-from-at t) find-from.Post
-find-from-slice-aggregate-open-read t c = search needs
-
-find-from-open-read-requires : (t : ℕ) → find-from-lts.Need-open-read-requires (
-  buffer-reads.Asked,
-  buffer-reads.Learnt,
-  arg-reads.Asked,
-  arg-reads.Learnt,
-  open-read-reads.Asked,
-  open-read-reads.Learnt,
-  begin-book-reads.Asked,
-  begin-book-reads.Learnt,
-  in-small-room-reads.Asked,
-  in-small-room-reads.Learnt,
-  in-large-room-reads.Asked,
-  in-large-room-reads.Learnt,
-  close-reads.Asked,
-  close-reads.Learnt,
-  find-from-below t,
-  find-from.Post,
-) (find-from-at t) find-from.Post
-find-from-open-read-requires t c κs = tt
-
-find-from-slice-aggregate-begin-book : (t : ℕ) → find-from-lts.Need-slice-aggregate-begin-book (
-  buffer-reads.Asked,
-  buffer-reads.Learnt,
-  arg-reads.Asked,
-  arg-reads.Learnt,
-  open-read-reads.Asked,
-  open-read-reads.Learnt,
-  begin-book-reads.Asked,
-  begin-book-reads.Learnt,
-  in-small-room-reads.Asked,
-  in-small-room-reads.Learnt,
-  in-large-room-reads.Asked,
-  in-large-room-reads.Learnt,
-  close-reads.Asked,
-  close-reads.Learnt,
-  find-from-below t,
-  find-from.Post,
-) (find-from-at t) find-from.Post
-find-from-slice-aggregate-begin-book t c = search needs
-
-find-from-array-share-prefix-space-2 : (t : ℕ) → find-from-lts.Need-array-share-prefix-space-2 (
-  buffer-reads.Asked,
-  buffer-reads.Learnt,
-  arg-reads.Asked,
-  arg-reads.Learnt,
-  open-read-reads.Asked,
-  open-read-reads.Learnt,
-  begin-book-reads.Asked,
-  begin-book-reads.Learnt,
-  in-small-room-reads.Asked,
-  in-small-room-reads.Learnt,
-  in-large-room-reads.Asked,
-  in-large-room-reads.Learnt,
-  close-reads.Asked,
-  close-reads.Learnt,
-  find-from-below t,
-  find-from.Post,
-) (find-from-at t) find-from.Post
-find-from-array-share-prefix-space-2 t c = search needs
-
-find-from-slice-aggregate-begin-book-2 : (t : ℕ) → find-from-lts.Need-slice-aggregate-begin-book-2 (
-  buffer-reads.Asked,
-  buffer-reads.Learnt,
-  arg-reads.Asked,
-  arg-reads.Learnt,
-  open-read-reads.Asked,
-  open-read-reads.Learnt,
-  begin-book-reads.Asked,
-  begin-book-reads.Learnt,
-  in-small-room-reads.Asked,
-  in-small-room-reads.Learnt,
-  in-large-room-reads.Asked,
-  in-large-room-reads.Learnt,
-  close-reads.Asked,
-  close-reads.Learnt,
-  find-from-below t,
-  find-from.Post,
-) (find-from-at t) find-from.Post
-find-from-slice-aggregate-begin-book-2 t c = search needs
-
-find-from-begin-book-requires : (t : ℕ) → find-from-lts.Need-begin-book-requires (
-  buffer-reads.Asked,
-  buffer-reads.Learnt,
-  arg-reads.Asked,
-  arg-reads.Learnt,
-  open-read-reads.Asked,
-  open-read-reads.Learnt,
-  begin-book-reads.Asked,
-  begin-book-reads.Learnt,
-  in-small-room-reads.Asked,
-  in-small-room-reads.Learnt,
-  in-large-room-reads.Asked,
-  in-large-room-reads.Learnt,
-  close-reads.Asked,
-  close-reads.Learnt,
-  find-from-below t,
-  find-from.Post,
-) (find-from-at t) find-from.Post
-find-from-begin-book-requires t c κs = tt
-
-find-from-enum-told : (t : ℕ) → find-from-lts.Need-enum-told (
-  buffer-reads.Asked,
-  buffer-reads.Learnt,
-  arg-reads.Asked,
-  arg-reads.Learnt,
-  open-read-reads.Asked,
-  open-read-reads.Learnt,
-  begin-book-reads.Asked,
-  begin-book-reads.Learnt,
-  in-small-room-reads.Asked,
-  in-small-room-reads.Learnt,
-  in-large-room-reads.Asked,
-  in-large-room-reads.Learnt,
-  close-reads.Asked,
-  close-reads.Learnt,
-  find-from-below t,
-  find-from.Post,
-) (find-from-at t) find-from.Post
-find-from-enum-told t c = search needs
-
-find-from-enum-told-2 : (t : ℕ) → find-from-lts.Need-enum-told-2 (
-  buffer-reads.Asked,
-  buffer-reads.Learnt,
-  arg-reads.Asked,
-  arg-reads.Learnt,
-  open-read-reads.Asked,
-  open-read-reads.Learnt,
-  begin-book-reads.Asked,
-  begin-book-reads.Learnt,
-  in-small-room-reads.Asked,
-  in-small-room-reads.Learnt,
-  in-large-room-reads.Asked,
-  in-large-room-reads.Learnt,
-  close-reads.Asked,
-  close-reads.Learnt,
-  find-from-below t,
-  find-from.Post,
-) (find-from-at t) find-from.Post
-find-from-enum-told-2 t c = search needs
-
-find-from-array-share-prefix-space-3 : (t : ℕ) → find-from-lts.Need-array-share-prefix-space-3 (
-  buffer-reads.Asked,
-  buffer-reads.Learnt,
-  arg-reads.Asked,
-  arg-reads.Learnt,
-  open-read-reads.Asked,
-  open-read-reads.Learnt,
-  begin-book-reads.Asked,
-  begin-book-reads.Learnt,
-  in-small-room-reads.Asked,
-  in-small-room-reads.Learnt,
-  in-large-room-reads.Asked,
-  in-large-room-reads.Learnt,
-  close-reads.Asked,
-  close-reads.Learnt,
-  find-from-below t,
-  find-from.Post,
-) (find-from-at t) find-from.Post
-find-from-array-share-prefix-space-3 t c = search needs
-
-find-from-slice-aggregate-in-small-room :
-    (t : ℕ) → find-from-lts.Need-slice-aggregate-in-small-room (
-      buffer-reads.Asked,
-      buffer-reads.Learnt,
-      arg-reads.Asked,
-      arg-reads.Learnt,
-      open-read-reads.Asked,
-      open-read-reads.Learnt,
-      begin-book-reads.Asked,
-      begin-book-reads.Learnt,
-      in-small-room-reads.Asked,
-      in-small-room-reads.Learnt,
-      in-large-room-reads.Asked,
-      in-large-room-reads.Learnt,
-      close-reads.Asked,
-      close-reads.Learnt,
-      find-from-below t,
-      find-from.Post,
-    ) (find-from-at t) find-from.Post
-find-from-slice-aggregate-in-small-room t c = search needs
-
-find-from-array-share-prefix-header : (t : ℕ) → find-from-lts.Need-array-share-prefix-header (
-  buffer-reads.Asked,
-  buffer-reads.Learnt,
-  arg-reads.Asked,
-  arg-reads.Learnt,
-  open-read-reads.Asked,
-  open-read-reads.Learnt,
-  begin-book-reads.Asked,
-  begin-book-reads.Learnt,
-  in-small-room-reads.Asked,
-  in-small-room-reads.Learnt,
-  in-large-room-reads.Asked,
-  in-large-room-reads.Learnt,
-  close-reads.Asked,
-  close-reads.Learnt,
-  find-from-below t,
-  find-from.Post,
-) (find-from-at t) find-from.Post
-find-from-array-share-prefix-header t c = search needs
-
-find-from-slice-aggregate-in-small-room-2 :
-    (t : ℕ) → find-from-lts.Need-slice-aggregate-in-small-room-2 (
-      buffer-reads.Asked,
-      buffer-reads.Learnt,
-      arg-reads.Asked,
-      arg-reads.Learnt,
-      open-read-reads.Asked,
-      open-read-reads.Learnt,
-      begin-book-reads.Asked,
-      begin-book-reads.Learnt,
-      in-small-room-reads.Asked,
-      in-small-room-reads.Learnt,
-      in-large-room-reads.Asked,
-      in-large-room-reads.Learnt,
-      close-reads.Asked,
-      close-reads.Learnt,
-      find-from-below t,
-      find-from.Post,
-    ) (find-from-at t) find-from.Post
-find-from-slice-aggregate-in-small-room-2 t c = search needs
-
-find-from-add-in-small-room : (t : ℕ) → find-from-lts.Need-add-in-small-room (
-  buffer-reads.Asked,
-  buffer-reads.Learnt,
-  arg-reads.Asked,
-  arg-reads.Learnt,
-  open-read-reads.Asked,
-  open-read-reads.Learnt,
-  begin-book-reads.Asked,
-  begin-book-reads.Learnt,
-  in-small-room-reads.Asked,
-  in-small-room-reads.Learnt,
-  in-large-room-reads.Asked,
-  in-large-room-reads.Learnt,
-  close-reads.Asked,
-  close-reads.Learnt,
-  find-from-below t,
-  find-from.Post,
-) (find-from-at t) find-from.Post
-find-from-add-in-small-room t c = search needs
-
-find-from-in-small-room-requires : (t : ℕ) → find-from-lts.Need-in-small-room-requires (
-  buffer-reads.Asked,
-  buffer-reads.Learnt,
-  arg-reads.Asked,
-  arg-reads.Learnt,
-  open-read-reads.Asked,
-  open-read-reads.Learnt,
-  begin-book-reads.Asked,
-  begin-book-reads.Learnt,
-  in-small-room-reads.Asked,
-  in-small-room-reads.Learnt,
-  in-large-room-reads.Asked,
-  in-large-room-reads.Learnt,
-  close-reads.Asked,
-  close-reads.Learnt,
-  find-from-below t,
-  find-from.Post,
-) (find-from-at t) find-from.Post
-find-from-in-small-room-requires t c κs = tt
-
-find-from-enum-told-3 : (t : ℕ) → find-from-lts.Need-enum-told-3 (
-  buffer-reads.Asked,
-  buffer-reads.Learnt,
-  arg-reads.Asked,
-  arg-reads.Learnt,
-  open-read-reads.Asked,
-  open-read-reads.Learnt,
-  begin-book-reads.Asked,
-  begin-book-reads.Learnt,
-  in-small-room-reads.Asked,
-  in-small-room-reads.Learnt,
-  in-large-room-reads.Asked,
-  in-large-room-reads.Learnt,
-  close-reads.Asked,
-  close-reads.Learnt,
-  find-from-below t,
-  find-from.Post,
-) (find-from-at t) find-from.Post
-find-from-enum-told-3 t c = search needs
-
-find-from-array-share-prefix-space-4 : (t : ℕ) → find-from-lts.Need-array-share-prefix-space-4 (
-  buffer-reads.Asked,
-  buffer-reads.Learnt,
-  arg-reads.Asked,
-  arg-reads.Learnt,
-  open-read-reads.Asked,
-  open-read-reads.Learnt,
-  begin-book-reads.Asked,
-  begin-book-reads.Learnt,
-  in-small-room-reads.Asked,
-  in-small-room-reads.Learnt,
-  in-large-room-reads.Asked,
-  in-large-room-reads.Learnt,
-  close-reads.Asked,
-  close-reads.Learnt,
-  find-from-below t,
-  find-from.Post,
-) (find-from-at t) find-from.Post
-find-from-array-share-prefix-space-4 t c = search needs
-
-find-from-slice-aggregate-in-large-room :
-    (t : ℕ) → find-from-lts.Need-slice-aggregate-in-large-room (
-      buffer-reads.Asked,
-      buffer-reads.Learnt,
-      arg-reads.Asked,
-      arg-reads.Learnt,
-      open-read-reads.Asked,
-      open-read-reads.Learnt,
-      begin-book-reads.Asked,
-      begin-book-reads.Learnt,
-      in-small-room-reads.Asked,
-      in-small-room-reads.Learnt,
-      in-large-room-reads.Asked,
-      in-large-room-reads.Learnt,
-      close-reads.Asked,
-      close-reads.Learnt,
-      find-from-below t,
-      find-from.Post,
-    ) (find-from-at t) find-from.Post
-find-from-slice-aggregate-in-large-room t c = search needs
-
-find-from-array-share-prefix-header-2 : (t : ℕ) → find-from-lts.Need-array-share-prefix-header-2 (
-  buffer-reads.Asked,
-  buffer-reads.Learnt,
-  arg-reads.Asked,
-  arg-reads.Learnt,
-  open-read-reads.Asked,
-  open-read-reads.Learnt,
-  begin-book-reads.Asked,
-  begin-book-reads.Learnt,
-  in-small-room-reads.Asked,
-  in-small-room-reads.Learnt,
-  in-large-room-reads.Asked,
-  in-large-room-reads.Learnt,
-  close-reads.Asked,
-  close-reads.Learnt,
-  find-from-below t,
-  find-from.Post,
-) (find-from-at t) find-from.Post
-find-from-array-share-prefix-header-2 t c = search needs
-
-find-from-slice-aggregate-in-large-room-2 :
-    (t : ℕ) → find-from-lts.Need-slice-aggregate-in-large-room-2 (
-      buffer-reads.Asked,
-      buffer-reads.Learnt,
-      arg-reads.Asked,
-      arg-reads.Learnt,
-      open-read-reads.Asked,
-      open-read-reads.Learnt,
-      begin-book-reads.Asked,
-      begin-book-reads.Learnt,
-      in-small-room-reads.Asked,
-      in-small-room-reads.Learnt,
-      in-large-room-reads.Asked,
-      in-large-room-reads.Learnt,
-      close-reads.Asked,
-      close-reads.Learnt,
-      find-from-below t,
-      find-from.Post,
-    ) (find-from-at t) find-from.Post
-find-from-slice-aggregate-in-large-room-2 t c = search needs
-
-find-from-add-in-large-room : (t : ℕ) → find-from-lts.Need-add-in-large-room (
-  buffer-reads.Asked,
-  buffer-reads.Learnt,
-  arg-reads.Asked,
-  arg-reads.Learnt,
-  open-read-reads.Asked,
-  open-read-reads.Learnt,
-  begin-book-reads.Asked,
-  begin-book-reads.Learnt,
-  in-small-room-reads.Asked,
-  in-small-room-reads.Learnt,
-  in-large-room-reads.Asked,
-  in-large-room-reads.Learnt,
-  close-reads.Asked,
-  close-reads.Learnt,
-  find-from-below t,
-  find-from.Post,
-) (find-from-at t) find-from.Post
-find-from-add-in-large-room t c = search needs
-
-find-from-in-large-room-requires : (t : ℕ) → find-from-lts.Need-in-large-room-requires (
-  buffer-reads.Asked,
-  buffer-reads.Learnt,
-  arg-reads.Asked,
-  arg-reads.Learnt,
-  open-read-reads.Asked,
-  open-read-reads.Learnt,
-  begin-book-reads.Asked,
-  begin-book-reads.Learnt,
-  in-small-room-reads.Asked,
-  in-small-room-reads.Learnt,
-  in-large-room-reads.Asked,
-  in-large-room-reads.Learnt,
-  close-reads.Asked,
-  close-reads.Learnt,
-  find-from-below t,
-  find-from.Post,
-) (find-from-at t) find-from.Post
-find-from-in-large-room-requires t c κs = tt
-
-find-from-close-requires : (t : ℕ) → find-from-lts.Need-close-requires (
-  buffer-reads.Asked,
-  buffer-reads.Learnt,
-  arg-reads.Asked,
-  arg-reads.Learnt,
-  open-read-reads.Asked,
-  open-read-reads.Learnt,
-  begin-book-reads.Asked,
-  begin-book-reads.Learnt,
-  in-small-room-reads.Asked,
-  in-small-room-reads.Learnt,
-  in-large-room-reads.Asked,
-  in-large-room-reads.Learnt,
-  close-reads.Asked,
-  close-reads.Learnt,
-  find-from-below t,
-  find-from.Post,
-) (find-from-at t) find-from.Post
-find-from-close-requires t c κs = tt
-
-find-from-add-find-from : (t : ℕ) → find-from-lts.Need-add-find-from (
-  buffer-reads.Asked,
-  buffer-reads.Learnt,
-  arg-reads.Asked,
-  arg-reads.Learnt,
-  open-read-reads.Asked,
-  open-read-reads.Learnt,
-  begin-book-reads.Asked,
-  begin-book-reads.Learnt,
-  in-small-room-reads.Asked,
-  in-small-room-reads.Learnt,
-  in-large-room-reads.Asked,
-  in-large-room-reads.Learnt,
-  close-reads.Asked,
-  close-reads.Learnt,
-  find-from-below t,
-  find-from.Post,
-) (find-from-at t) find-from.Post
-find-from-add-find-from t c = search needs
-
-find-from-find-from-requires : (t : ℕ) → find-from-lts.Need-find-from-requires (
-  buffer-reads.Asked,
-  buffer-reads.Learnt,
-  arg-reads.Asked,
-  arg-reads.Learnt,
-  open-read-reads.Asked,
-  open-read-reads.Learnt,
-  begin-book-reads.Asked,
-  begin-book-reads.Learnt,
-  in-small-room-reads.Asked,
-  in-small-room-reads.Learnt,
-  in-large-room-reads.Asked,
-  in-large-room-reads.Learnt,
-  close-reads.Asked,
-  close-reads.Learnt,
-  find-from-below t,
-  find-from.Post,
-) (find-from-at t) find-from.Post
-find-from-find-from-requires t c κs =
-    let judged = c .before .before .before in
-    let begun = judged .before .before .before in
-    let opened = begun .before .before .before .before in
-    let start = opened .before .before .before .before in
-    let left : start .args .count - start .args .i ≡ t = start .pre .0 in
-    let less : start .args .count - (start .args .i + 2) < t = omega arith in
-    (less, tt)
-
-find-from-returns-3 : (t : ℕ) → find-from-lts.Need-returns-3 (
-  buffer-reads.Asked,
-  buffer-reads.Learnt,
-  arg-reads.Asked,
-  arg-reads.Learnt,
-  open-read-reads.Asked,
-  open-read-reads.Learnt,
-  begin-book-reads.Asked,
-  begin-book-reads.Learnt,
-  in-small-room-reads.Asked,
-  in-small-room-reads.Learnt,
-  in-large-room-reads.Asked,
-  in-large-room-reads.Learnt,
-  close-reads.Asked,
-  close-reads.Learnt,
-  find-from-below t,
-  find-from.Post,
-) (find-from-at t) find-from.Post
-find-from-returns-3 t c = search needs
-
-pub +find-from-spec : {M : Type 1} → statement M
-+find-from-spec = close μ-find-from λ t. find-from-lts.spec (
+-- what the calls in its body ask and tell, itself among them
+abbrev calls : ℕ → find-from-lts.Claims
+calls t = (
   buffer-reads.Asked,
   buffer-reads.Learnt,
   arg-reads.Asked,
@@ -698,8 +48,116 @@ pub +find-from-spec : {M : Type 1} → statement M
   find-from-below t,
   find-from.Post,
 )
-    (find-from-at t)
-    find-from.Post
+
+find-from-returns : (t : ℕ) → find-from-lts.Need-returns (calls t) (find-from-at t) find-from.Post
+find-from-returns t c = search needs
+
+find-from-sub-if2 : (t : ℕ) → find-from-lts.Need-sub-if2 (calls t) (find-from-at t) find-from.Post
+find-from-sub-if2 t c = search needs
+
+find-from-returns-2 : (t : ℕ) → find-from-lts.Need-returns-2 (calls t) (find-from-at t) find-from.Post
+find-from-returns-2 t c = search needs
+
+find-from-buffer-requires : (t : ℕ) → find-from-lts.Need-buffer-requires (calls t) (find-from-at t) find-from.Post
+find-from-buffer-requires t c κs = tt
+
+find-from-slice-aggregate-arg : (t : ℕ) → find-from-lts.Need-slice-aggregate-arg (calls t) (find-from-at t) find-from.Post
+find-from-slice-aggregate-arg t c = search needs
+
+find-from-arg-requires : (t : ℕ) → find-from-lts.Need-arg-requires (calls t) (find-from-at t) find-from.Post
+find-from-arg-requires t c κs = tt
+
+find-from-array-share-prefix-space : (t : ℕ) → find-from-lts.Need-array-share-prefix-space (calls t) (find-from-at t) find-from.Post
+find-from-array-share-prefix-space t c = search needs
+
+find-from-slice-aggregate-open-read : (t : ℕ) → find-from-lts.Need-slice-aggregate-open-read (calls t) (find-from-at t) find-from.Post
+find-from-slice-aggregate-open-read t c = search needs
+
+find-from-open-read-requires : (t : ℕ) → find-from-lts.Need-open-read-requires (calls t) (find-from-at t) find-from.Post
+find-from-open-read-requires t c κs = tt
+
+find-from-slice-aggregate-begin-book : (t : ℕ) → find-from-lts.Need-slice-aggregate-begin-book (calls t) (find-from-at t) find-from.Post
+find-from-slice-aggregate-begin-book t c = search needs
+
+find-from-array-share-prefix-space-2 : (t : ℕ) → find-from-lts.Need-array-share-prefix-space-2 (calls t) (find-from-at t) find-from.Post
+find-from-array-share-prefix-space-2 t c = search needs
+
+find-from-slice-aggregate-begin-book-2 : (t : ℕ) → find-from-lts.Need-slice-aggregate-begin-book-2 (calls t) (find-from-at t) find-from.Post
+find-from-slice-aggregate-begin-book-2 t c = search needs
+
+find-from-begin-book-requires : (t : ℕ) → find-from-lts.Need-begin-book-requires (calls t) (find-from-at t) find-from.Post
+find-from-begin-book-requires t c κs = tt
+
+find-from-enum-told : (t : ℕ) → find-from-lts.Need-enum-told (calls t) (find-from-at t) find-from.Post
+find-from-enum-told t c = search needs
+
+find-from-enum-told-2 : (t : ℕ) → find-from-lts.Need-enum-told-2 (calls t) (find-from-at t) find-from.Post
+find-from-enum-told-2 t c = search needs
+
+find-from-array-share-prefix-space-3 : (t : ℕ) → find-from-lts.Need-array-share-prefix-space-3 (calls t) (find-from-at t) find-from.Post
+find-from-array-share-prefix-space-3 t c = search needs
+
+find-from-slice-aggregate-in-small-room :
+    (t : ℕ) → find-from-lts.Need-slice-aggregate-in-small-room (calls t) (find-from-at t) find-from.Post
+find-from-slice-aggregate-in-small-room t c = search needs
+
+find-from-array-share-prefix-header : (t : ℕ) → find-from-lts.Need-array-share-prefix-header (calls t) (find-from-at t) find-from.Post
+find-from-array-share-prefix-header t c = search needs
+
+find-from-slice-aggregate-in-small-room-2 :
+    (t : ℕ) → find-from-lts.Need-slice-aggregate-in-small-room-2 (calls t) (find-from-at t) find-from.Post
+find-from-slice-aggregate-in-small-room-2 t c = search needs
+
+find-from-add-in-small-room : (t : ℕ) → find-from-lts.Need-add-in-small-room (calls t) (find-from-at t) find-from.Post
+find-from-add-in-small-room t c = search needs
+
+find-from-in-small-room-requires : (t : ℕ) → find-from-lts.Need-in-small-room-requires (calls t) (find-from-at t) find-from.Post
+find-from-in-small-room-requires t c κs = tt
+
+find-from-enum-told-3 : (t : ℕ) → find-from-lts.Need-enum-told-3 (calls t) (find-from-at t) find-from.Post
+find-from-enum-told-3 t c = search needs
+
+find-from-array-share-prefix-space-4 : (t : ℕ) → find-from-lts.Need-array-share-prefix-space-4 (calls t) (find-from-at t) find-from.Post
+find-from-array-share-prefix-space-4 t c = search needs
+
+find-from-slice-aggregate-in-large-room :
+    (t : ℕ) → find-from-lts.Need-slice-aggregate-in-large-room (calls t) (find-from-at t) find-from.Post
+find-from-slice-aggregate-in-large-room t c = search needs
+
+find-from-array-share-prefix-header-2 : (t : ℕ) → find-from-lts.Need-array-share-prefix-header-2 (calls t) (find-from-at t) find-from.Post
+find-from-array-share-prefix-header-2 t c = search needs
+
+find-from-slice-aggregate-in-large-room-2 :
+    (t : ℕ) → find-from-lts.Need-slice-aggregate-in-large-room-2 (calls t) (find-from-at t) find-from.Post
+find-from-slice-aggregate-in-large-room-2 t c = search needs
+
+find-from-add-in-large-room : (t : ℕ) → find-from-lts.Need-add-in-large-room (calls t) (find-from-at t) find-from.Post
+find-from-add-in-large-room t c = search needs
+
+find-from-in-large-room-requires : (t : ℕ) → find-from-lts.Need-in-large-room-requires (calls t) (find-from-at t) find-from.Post
+find-from-in-large-room-requires t c κs = tt
+
+find-from-close-requires : (t : ℕ) → find-from-lts.Need-close-requires (calls t) (find-from-at t) find-from.Post
+find-from-close-requires t c κs = tt
+
+find-from-add-find-from : (t : ℕ) → find-from-lts.Need-add-find-from (calls t) (find-from-at t) find-from.Post
+find-from-add-find-from t c = search needs
+
+find-from-find-from-requires : (t : ℕ) → find-from-lts.Need-find-from-requires (calls t) (find-from-at t) find-from.Post
+find-from-find-from-requires t c κs =
+    let judged = c .before .before .before in
+    let begun = judged .before .before .before in
+    let opened = begun .before .before .before .before in
+    let start = opened .before .before .before .before in
+    let left : start .args .count - start .args .i ≡ t = start .pre .0 in
+    let less : start .args .count - (start .args .i + 2) < t = omega arith in
+    (less, tt)
+
+find-from-returns-3 : (t : ℕ) → find-from-lts.Need-returns-3 (calls t) (find-from-at t) find-from.Post
+find-from-returns-3 t c = search needs
+
+pub +find-from-spec : {M : Type 1} → statement M
++find-from-spec = close μ-find-from λ t. find-from-lts.spec (calls t) (find-from-at t) find-from.Post
     (find-from-returns t)
     (find-from-sub-if2 t)
     (find-from-returns-2 t)

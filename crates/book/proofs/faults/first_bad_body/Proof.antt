@@ -1,8 +1,9 @@
 -- `book::faults::first_bad_body` meets its contract: each body so far is a cycle. Assumes nothing.
 use mathlib.Core.Path.{_≡_, sym, _∙_}
 use mathlib.Core.Bool.{true, false}
-use Prim.Native.Nat.{ℕ, _-_, _≤_, _<_}
+use Prim.Native.Nat.{ℕ, _-_, _/_, _≤_, _<_}
 use native.Mathlib.Omega.{arith}
+use lib.ListN.{length}
 use denote.Ref.{now}
 use borrow.Author.Count.{below-more}
 use Rattle.base.proofs.Ranges.{stopped, searched}
@@ -44,7 +45,7 @@ returns c =
     let l = c .before .before .before .before in
     let a = l .before .before .args in
     let bodies = now (a .bodies) in
-    stopped (badRow (a .year) bodies) (a .n) (l .loop .i) (omega arith) (l .loop .inv .1)
+    stopped (badRow (a .year) bodies) (length bodies / 65536) (l .loop .i) (omega arith) (l .loop .inv .1)
     (row-tested (a .year) bodies (l .loop .i) _ true (c .before .is-cycle .ensures) (c .if1 .taken))
 
 add-i : tie.Need-add-i Inv-loop μ-loop
@@ -64,7 +65,8 @@ returns-2 : tie.Need-returns-2 Inv-loop μ-loop
 returns-2 c =
     let l = c .before in
     let a = l .before .before .args in
-    searched (badRow (a .year) (now (a .bodies))) (a .n) (l .loop .i) (omega arith) (l .loop .inv .1)
+    let bodies = now (a .bodies) in
+    searched (badRow (a .year) bodies) (length bodies / 65536) (l .loop .i) (omega arith) (l .loop .inv .1)
 
 pub first-bad-body-spec : {M : Type 1} → statement M
 first-bad-body-spec =

@@ -2,7 +2,7 @@
 use mathlib.Core.Path.{sym, _∙_}
 use native.Mathlib.Omega.{arith}
 use denote.Ref.{now}
-use Rattle.book.proofs.Viewing.{has-size, rest-length, refused-17, refused-18, refused-19, none-refused}
+use Rattle.book.proofs.Viewing.{has-size, refused-17, refused-18, refused-19, none-refused}
 use borrow.Author.Needs.{needs}
 use Rattle.book.proofs.faults.first_entry_fault.Statement.{statement}
 use Rattle.book.proofs.faults.first_entry_fault.Tie as tie
@@ -37,10 +37,7 @@ part-first-bad-body-end : tie.Need-part-first-bad-body-end
 part-first-bad-body-end c = search needs
 
 first-bad-body-requires : tie.Need-first-bad-body-requires
-first-bad-body-requires c κs =
-    let said = c .before .before in
-    let s = said .before .before in
-    rest-length (now (s .args .bytes)) (s .pre) _ (said .cycles-said .ensures .0)
+first-bad-body-requires c κs = search needs
 
 fault-at-requires : tie.Need-fault-at-requires
 fault-at-requires c κs = search needs

@@ -1,8 +1,11 @@
 -- `book_compare::merge::next_step` meets its contract: one book has come to its end, or both have a cycle to come. Assumes nothing.
+use mathlib.Core.Path.{_∙_}
 use native.Mathlib.Omega.{arith}
+use denote.Ref.{now}
 use borrow.Author.Needs.{needs}
-use Rattle.book_compare.specs.Merge.{Entered}
-use Rattle.book_compare.proofs.Held.{count-is, few-cycles}
+use Rattle.book_parts.specs.Parts.{Entered}
+use Rattle.book.proofs.Headers.{count-is, few-cycles}
+use Rattle.book_parts.proofs.Held.{instant-there}
 use Rattle.book_compare.proofs.Merging.{first-ended, second-ended}
 use Rattle.book_compare.proofs.merge.next_step.Statement.{statement}
 use Rattle.book_compare.proofs.merge.next_step.Tie as tie
@@ -11,10 +14,7 @@ cycles-requires : tie.Need-cycles-requires
 cycles-requires c κs = search needs
 
 instant-requires : tie.Need-instant-requires
-instant-requires c κs =
-    let start = c .before .before .before .before in
-    let n = count-is _ (start .pre .0 .first-sized) _ (c .before .cycles .ensures) in
-    record { sized = start .pre .0 .second-sized; below = omega arith }
+instant-requires c κs = search needs
 
 past-second-requires : tie.Need-past-second-requires
 past-second-requires c κs =
@@ -28,18 +28,15 @@ returns c =
     let tested = c .before .before in
     let start = tested .before .before .before .before in
     let n = count-is _ (start .pre .0 .first-sized) _ (tested .before .cycles .ensures) in
-    first-ended _ _ _ _ _ _ (omega arith) (omega arith) (c .before .instant .ensures) (c .past-second .ensures)
+    let a = start .args in
+    let e : Entered (now (a .second)) (a .j) = record { sized = start .pre .0 .second-sized; below = omega arith } in
+    first-ended _ _ _ _ _ _ (omega arith) (omega arith) (c .before .instant .ensures ∙ instant-there _ _ e) (c .past-second .ensures)
 
 cycles-requires-2 : tie.Need-cycles-requires-2
 cycles-requires-2 c κs = search needs
 
 instant-requires-2 : tie.Need-instant-requires-2
-instant-requires-2 c κs =
-    let told = c .before .before .before in
-    let start = told .before .before .before in
-    let n = count-is _ (start .pre .0 .first-sized) _ (told .cycles .ensures) in
-    let m = count-is _ (start .pre .0 .second-sized) _ (c .before .cycles2 .ensures) in
-    record { sized = start .pre .0 .first-sized; below = omega arith }
+instant-requires-2 c κs = search needs
 
 past-first-requires : tie.Need-past-first-requires
 past-first-requires c κs =
@@ -55,7 +52,9 @@ returns-2 c =
     let start = told .before .before .before in
     let n = count-is _ (start .pre .0 .first-sized) _ (told .cycles .ensures) in
     let m = count-is _ (start .pre .0 .second-sized) _ (tested .before .cycles2 .ensures) in
-    second-ended _ _ _ _ _ _ (omega arith) (omega arith) (c .before .instant2 .ensures) (c .past-first .ensures)
+    let a = start .args in
+    let e : Entered (now (a .first)) (a .i) = record { sized = start .pre .0 .first-sized; below = omega arith } in
+    second-ended _ _ _ _ _ _ (omega arith) (omega arith) (c .before .instant2 .ensures ∙ instant-there _ _ e) (c .past-first .ensures)
 
 step-both-requires : tie.Need-step-both-requires
 step-both-requires c κs =

@@ -6,7 +6,7 @@ use native.Mathlib.Omega.{arith}
 use lib.ListN.{length}
 use borrow.Author.Needs.{needs}
 use Rattle.book_compare.specs.Merge.{Placed}
-use Rattle.book_compare.proofs.Held.{count-is, few-cycles}
+use Rattle.book.proofs.Headers.{count-is, few-cycles}
 use Rattle.book_compare.proofs.Merging.{Progress, begun, no-line, one-line, ended, placed-on}
 use Rattle.book_compare.proofs.merge.put_lines.Statement.{statement}
 use Rattle.book_compare.proofs.merge.put_lines.Tie as tie

@@ -3,7 +3,8 @@ use mathlib.Core.Path.{_≡_, sym, ap, _∙_}
 use native.Mathlib.Omega.{arith}
 use borrow.Author.Needs.{needs}
 use lib.ListN.{length}
-use Rattle.book_compare.proofs.Held.{few-cycles, body-bytes, body-length}
+use Rattle.book.proofs.Headers.{few-cycles}
+use Rattle.book_parts.proofs.Held.{instant-there, body-bytes, body-length}
 use Rattle.book_compare.proofs.Merging.{first-lower, second-lower, together-past}
 use Rattle.book_compare.proofs.FirstByte.{differing-same}
 use Rattle.book_compare.proofs.merge.step_both.Statement.{statement}
@@ -27,8 +28,9 @@ returns : tie.Need-returns
 returns c =
     let told = c .before .before in
     let start = told .before .before .before .before in
-    first-lower _ _ _ _ _ (start .pre .0) (start .pre .1) _ _ (told .before .instant .ensures) (told .instant2 .ensures) (c .before .if1 .taken)
-    (c .past-first .ensures)
+    let s = told .before .instant .ensures ∙ instant-there _ _ (start .pre .0) in
+    let t = told .instant2 .ensures ∙ instant-there _ _ (start .pre .1) in
+    first-lower _ _ _ _ _ (start .pre .0) (start .pre .1) _ _ s t (c .before .if1 .taken) (c .past-first .ensures)
 
 past-second-requires : tie.Need-past-second-requires
 past-second-requires c κs =
@@ -42,8 +44,9 @@ returns-2 : tie.Need-returns-2
 returns-2 c =
     let told = c .before .before .before in
     let start = told .before .before .before .before in
-    second-lower _ _ _ _ _ (start .pre .0) (start .pre .1) _ _ (told .before .instant .ensures) (told .instant2 .ensures) (c .before .if2 .taken)
-    (c .past-second .ensures)
+    let s = told .before .instant .ensures ∙ instant-there _ _ (start .pre .0) in
+    let t = told .instant2 .ensures ∙ instant-there _ _ (start .pre .1) in
+    second-lower _ _ _ _ _ (start .pre .0) (start .pre .1) _ _ s t (c .before .if2 .taken) (c .past-second .ensures)
 
 body-requires : tie.Need-body-requires
 body-requires c κs = search needs
@@ -81,8 +84,9 @@ returns-3 c =
     let place = found .first-differing .ensures ∙ differing-same first second in
     let not-lower = tests .before .if1 .left in
     let not-higher = tests .if2 .left in
-    together-past _ _ _ _ _ (start .pre .0) (start .pre .1) _ _ (told .before .instant .ensures) (told .instant2 .ensures) (omega arith) _ place
-    (c .past-both .ensures)
+    let s = told .before .instant .ensures ∙ instant-there _ _ (start .pre .0) in
+    let t = told .instant2 .ensures ∙ instant-there _ _ (start .pre .1) in
+    together-past _ _ _ _ _ (start .pre .0) (start .pre .1) _ _ s t (omega arith) _ place (c .past-both .ensures)
 
 pub step-both-spec : {M : Type 1} → statement M
 step-both-spec =

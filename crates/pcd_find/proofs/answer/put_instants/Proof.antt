@@ -2,7 +2,7 @@
 use mathlib.Core.Path.{sym, _∙_}
 use Prim.Native.Nat.{_≤_, _-_}
 use native.Mathlib.Omega.{arith}
-use Rattle.book_compare.proofs.Held.{entered}
+use Rattle.book_parts.proofs.Held.{entered, instant-there}
 use Rattle.pcd_find.proofs.Laws.{cycles-are, few, Put, none-put, one-more, all-put}
 use Rattle.pcd_find.proofs.answer.put_instants.Statement.{statement}
 use Rattle.pcd_find.proofs.answer.put_instants.Tie as tie
@@ -20,11 +20,7 @@ loop-holds : tie.Need-loop-holds Inv-loop μ-loop
 loop-holds c = (omega arith, none-put _ _ (c .before .before .before .pre .1))
 
 instant-requires : tie.Need-instant-requires Inv-loop μ-loop
-instant-requires c κs =
-    let counted = c .before .before in
-    let start = counted .before .before .before in
-    let cycles = cycles-are _ (start .pre .0) _ (counted .cycles .ensures) in
-    entered _ (start .pre .0) _ (omega arith)
+instant-requires c κs = tt
 
 mul-out : tie.Need-mul-out Inv-loop μ-loop
 mul-out c =
@@ -47,8 +43,11 @@ loop-less c = omega arith
 loop-again : tie.Need-loop-again Inv-loop μ-loop
 loop-again c =
     let counted = c .before .before .before in
-    let most = few _ (counted .before .before .before .pre .0) _ (counted .cycles .ensures) in
-    (omega arith, one-more _ _ _ _ (omega arith) (c .instant .ensures) (c .before .before .loop .inv .1))
+    let accepted = counted .before .before .before .pre .0 in
+    let cycles = cycles-are _ accepted _ (counted .cycles .ensures) in
+    let most = few _ accepted _ (counted .cycles .ensures) in
+    let told = c .instant .ensures ∙ instant-there _ _ (entered _ accepted _ (omega arith)) in
+    (omega arith, one-more _ _ _ _ (omega arith) told (c .before .before .loop .inv .1))
 
 same-length : tie.Need-same-length Inv-loop μ-loop
 same-length c =
