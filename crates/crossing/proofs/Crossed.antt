@@ -14,9 +14,10 @@ use Rattle.labelling.proofs.CallLaws.{refused-answer}
 use Rattle.reader.specs.declared.duty.DutyChanged.{DutyChanged}
 use Rattle.reader.specs.declared.Taken.{Taken}
 use Rattle.reader.specs.Shapes.{TakePromise, DutyPromise, callOf as readerCall, dutyCallOf as readerDuty}
-use Rattle.crossing.specs.Crossing.{isTally, tallyOf, numbersOf, Lent, lent, callOf, written, takeRefused, takeLeaves, TakeCrossed, FreshCrossed}
+use Rattle.tally_numbers.specs.Numbers.{isTally, tallyOf, numbersOf}
+use Rattle.tally_numbers.proofs.Numbers.{layout}
+use Rattle.crossing.specs.Crossing.{Lent, lent, callOf, written, takeRefused, takeLeaves, TakeCrossed, FreshCrossed}
 use Rattle.crossing.specs.Crossing.{Places, places, dutyCallOf, tallyPlaces, dutyRefused, dutyLeaves, DutyCrossed}
-use Rattle.crossing.proofs.Numbers.{layout}
 
 pub fresh-crossed : {rule n : ℕ} {t : Tally} → FreshPromise rule n t → FreshCrossed rule n (numbersOf t) (t .frame)
 fresh-crossed p = record {

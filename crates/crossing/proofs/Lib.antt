@@ -1,4 +1,2 @@
-pub mod Numbers
 pub mod Crossed
 pub mod LockCrossed
-pub mod RelockCrossed

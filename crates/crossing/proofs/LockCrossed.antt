@@ -12,7 +12,8 @@ use Rattle.labelling.proofs.CallLaws.{refused-answer}
 use Rattle.own_sync.specs.Locks.{locks, toLock}
 use Rattle.reader.specs.declared.Locked.{Locked}
 use Rattle.reader.specs.Shapes.{LockPromise, answerOf, callOf as readerCall}
-use Rattle.crossing.specs.Crossing.{isTally, tallyOf, numbersOf, Lent, lent, callOf, takeRefused}
+use Rattle.tally_numbers.specs.Numbers.{isTally, tallyOf, numbersOf}
+use Rattle.crossing.specs.Crossing.{Lent, lent, callOf, takeRefused}
 use Rattle.crossing.specs.Locking.{lockWritten, lockLeaves, LockCrossed}
 
 module _ (l : Lent) (piece : List ℕ) where

@@ -7,7 +7,8 @@ use lib.Dec.{eqb}
 use Rattle.base.specs.Lists.{one}
 use Rattle.labelling.specs.Calls.{TakeCall, answer}
 use Rattle.own_sync.specs.Locks.{locks, toLock}
-use Rattle.crossing.specs.Crossing.{numbersOf, Lent, lent, callOf, takeRefused}
+use Rattle.tally_numbers.specs.Numbers.{numbersOf}
+use Rattle.crossing.specs.Crossing.{Lent, lent, callOf, takeRefused}
 
 -- the answer as it crosses, of the part of the piece as far as a lock: the tally, the area, the bytes taken, whether a major frame is complete, and
 -- whether a hunt has ended: of the hunts that have ended there is one more, or none

@@ -1,8 +1,8 @@
 // A call that also stops where a hunt ends, on the numbers that the caller lends.
 ghost use Rattle.crossing.specs.Crossing.{lent};
 ghost use Rattle.crossing.specs.Locking.{LockCrossed};
-use crate::NUMBERS;
 use base::refusal::NOT_IN_ORDER;
+use tally_numbers::NUMBERS;
 
 // Takes a piece of the stream, as far as the byte that completes a major frame or ends a hunt. Returns the number of the refusal, 0 for none; a
 // refusal writes nothing. `answer` gets the bytes taken, then 1 where a major frame is complete, then 1 where a hunt has ended.
@@ -17,19 +17,19 @@ pub fn take_to_lock(
         (lent (now (numbers .entry)) (now (frame .entry)) (now (area .entry)) (now (answer .entry))) (now (piece .entry)) r
         (lent (now (numbers .exit)) (now (frame .exit)) (now (area .exit)) (now (answer .exit))) ⌝ }
 {
-    if !crate::is_tally(&*numbers) {
+    if !tally_numbers::is_tally(&*numbers) {
         return NOT_IN_ORDER;
     }
-    let t = crate::tally_of(&*numbers, &*frame);
+    let t = tally_numbers::tally_of(&*numbers, &*frame);
     let r = reader::take_to_lock(t, piece, area);
     let taken = r.taken;
     if taken.refusal != 0 {
         return taken.refusal;
     }
     let left = taken.tally;
-    crate::put_tally(left, numbers, frame);
-    let complete = crate::flag(taken.complete);
-    let locked = crate::flag(r.locked);
+    tally_numbers::put_tally(left, numbers, frame);
+    let complete = tally_numbers::flag(taken.complete);
+    let locked = tally_numbers::flag(r.locked);
     *answer = [taken.taken as u64, complete, locked];
     0
 }

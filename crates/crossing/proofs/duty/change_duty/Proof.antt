@@ -4,7 +4,7 @@ use mathlib.Core.Path.{_≡_, sym, _∙_}
 use mathlib.Core.Bool.{true}
 use denote.Ref.{now}
 use borrow.Author.Tests.{not-true, not-false}
-use Rattle.crossing.specs.Crossing.{isTally}
+use Rattle.tally_numbers.specs.Numbers.{isTally}
 use Rattle.crossing.proofs.Crossed.{duty-no-tally, duty-accepted-crossed, duty-refused-crossed}
 use borrow.Author.Needs.{needs}
 use Rattle.crossing.proofs.duty.change_duty.Statement.{statement}

@@ -4,7 +4,7 @@ use Rattle.crossing.proofs.LockCrossed.{lock-no-tally, lock-accepted, l
 use mathlib.Core.Path.{_≡_, sym, _∙_}
 use mathlib.Core.Bool.{true}
 use denote.Ref.{now}
-use Rattle.crossing.specs.Crossing.{isTally}
+use Rattle.tally_numbers.specs.Numbers.{isTally}
 use borrow.Author.Tests.{not-true, not-false}
 use borrow.Author.Needs.{needs}
 use Rattle.crossing.proofs.lock.take_to_lock.Statement.{statement}

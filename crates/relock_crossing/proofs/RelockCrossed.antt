@@ -11,8 +11,8 @@ use Rattle.base.specs.Lists.{one}
 use Rattle.relocking.specs.declared.Feeder.{Feeder}
 use Rattle.relocking.specs.declared.Relocked.{Relocked}
 use Rattle.relocking.specs.Relock.{Move, move, moved, areaMoved, RelockPromise}
-use Rattle.crossing.specs.Crossing.{isTally, numbersOf}
-use Rattle.crossing.specs.Relocking.{isFeeder, LentFeeder, lentFeeder, feederIn, relockRefused, stepWritten, relockLeaves, RelockCrossed}
+use Rattle.tally_numbers.specs.Numbers.{isTally, numbersOf}
+use Rattle.relock_crossing.specs.Relocking.{isFeeder, LentFeeder, lentFeeder, feederIn, relockRefused, stepWritten, relockLeaves, RelockCrossed}
 
 -- a feeder's numbers are a tally's
 both-left : (a b : Bool) → (a && b) ≡ true → a ≡ true

@@ -1,14 +1,14 @@
--- `crossing::feeder::relock` meets its contract: numbers that are no feeder's are refused; else it hands over what the step promises, or leaves all
+-- `relock_crossing::relock` meets its contract: numbers that are no feeder's are refused; else it hands over what the step promises, or leaves all
 -- as it was. Assumes nothing.
 use mathlib.Core.Path.{_≡_, sym, _∙_}
 use mathlib.Core.Bool.{true}
 use denote.Ref.{now}
 use borrow.Author.Tests.{not-true, not-false}
-use Rattle.crossing.specs.Relocking.{isFeeder}
-use Rattle.crossing.proofs.RelockCrossed.{no-feeder, step-accepted, step-refused}
+use Rattle.relock_crossing.specs.Relocking.{isFeeder}
+use Rattle.relock_crossing.proofs.RelockCrossed.{no-feeder, step-accepted, step-refused}
 use borrow.Author.Needs.{needs}
-use Rattle.crossing.proofs.feeder.relock.Statement.{statement}
-use Rattle.crossing.proofs.feeder.relock.Tie as tie
+use Rattle.relock_crossing.proofs.relock.Statement.{statement}
+use Rattle.relock_crossing.proofs.relock.Tie as tie
 
 is-feeder-requires : tie.Need-is-feeder-requires
 is-feeder-requires c κs = search needs

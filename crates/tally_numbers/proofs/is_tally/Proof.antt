@@ -1,9 +1,9 @@
--- `crossing::is_tally` meets its contract: it is the test that the definition says. Assumes nothing.
+-- `tally_numbers::is_tally` meets its contract: it is the test that the definition says. Assumes nothing.
 use mathlib.Core.Path.{refl}
 use borrow.Author.Needs.{needs}
-use Rattle.crossing.specs.Crossing.{isTally}
-use Rattle.crossing.proofs.is_tally.Statement.{statement}
-use Rattle.crossing.proofs.is_tally.Tie as tie
+use Rattle.tally_numbers.specs.Numbers.{isTally}
+use Rattle.tally_numbers.proofs.is_tally.Statement.{statement}
+use Rattle.tally_numbers.proofs.is_tally.Tie as tie
 
 element-copy-out-result : tie.Need-element-copy-out-result
 element-copy-out-result c = search needs

@@ -1,8 +1,8 @@
--- `crossing::feeder::is_feeder` meets its contract: it is the test that the definition says. Assumes nothing.
+-- `relock_crossing::is_feeder` meets its contract: it is the test that the definition says. Assumes nothing.
 use borrow.Author.Needs.{needs}
-use Rattle.crossing.specs.Relocking.{isFeeder}
-use Rattle.crossing.proofs.feeder.is_feeder.Statement.{statement}
-use Rattle.crossing.proofs.feeder.is_feeder.Tie as tie
+use Rattle.relock_crossing.specs.Relocking.{isFeeder}
+use Rattle.relock_crossing.proofs.is_feeder.Statement.{statement}
+use Rattle.relock_crossing.proofs.is_feeder.Tie as tie
 
 is-tally-requires : tie.Need-is-tally-requires
 is-tally-requires c κs = search needs

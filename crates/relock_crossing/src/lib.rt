@@ -3,10 +3,10 @@
 ghost use mathlib.Core.Path.{_≡_};
 ghost use mathlib.Core.Bool.{true, not};
 ghost use lib.Dec.{eqb};
-ghost use Rattle.crossing.specs.Relocking.{isFeeder, feederOf, lentFeeder, RelockCrossed};
-use crate::NUMBERS;
+ghost use Rattle.relock_crossing.specs.Relocking.{isFeeder, feederOf, lentFeeder, RelockCrossed};
 use base::refusal::NOT_IN_ORDER;
 use relocking::Feeder;
+use tally_numbers::NUMBERS;
 
 // One step on a piece of the reel; `ends` is 0 where more bytes may follow the piece. Returns the number of the refusal, 0 for none; a refusal writes
 // nothing. `answer` gets the bytes taken, then 1 where a major frame is complete, then 1 where the bytes left are asked for again with more behind
@@ -35,10 +35,10 @@ pub fn relock(
     }
     let next = r.feeder;
     let left = next.tally;
-    crate::put_tally(left, numbers, frame);
-    let awaits = crate::flag(next.awaits);
-    let complete = crate::flag(r.complete);
-    let more = crate::flag(r.more);
+    tally_numbers::put_tally(left, numbers, frame);
+    let awaits = tally_numbers::flag(next.awaits);
+    let complete = tally_numbers::flag(r.complete);
+    let more = tally_numbers::flag(r.more);
     *feeder = [awaits, next.handed];
     *answer = [r.taken as u64, complete, more];
     0
@@ -48,14 +48,14 @@ pub fn relock(
 fn is_feeder(n: &[u64; NUMBERS], feeder: &[u64; 2]) -> bool
     ensures { λ r. ⌜ r ≡ isFeeder (now (n .entry)) (now (feeder .entry)) ⌝ }
 {
-    crate::is_tally(n) & (feeder[0] < 2)
+    tally_numbers::is_tally(n) & (feeder[0] < 2)
 }
 
 fn feeder_of(n: &[u64; NUMBERS], frame: &[u8; 128], feeder: &[u64; 2]) -> Feeder
     requires { ⌜ isFeeder (now n) (now feeder) ≡ true ⌝ }
     ensures { λ r. ⌜ r ≡ feederOf (now (n .entry)) (now (frame .entry)) (now (feeder .entry)) ⌝ }
 {
-    let t = crate::tally_of(n, frame);
+    let t = tally_numbers::tally_of(n, frame);
     Feeder {
         tally: t,
         awaits: feeder[0] == 1,

@@ -1,10 +1,10 @@
--- `crossing::put_tally` meets its contract: two numbers are copies, two are flags, and eight are the paid counts. Assumes nothing.
+-- `tally_numbers::put_tally` meets its contract: two numbers are copies, two are flags, and eight are the paid counts. Assumes nothing.
 use mathlib.Core.Path.{_≡_}
 use lib.ListN.{length}
-use Rattle.crossing.proofs.Numbers.{written-out}
+use Rattle.tally_numbers.proofs.Numbers.{written-out}
 use borrow.Author.Needs.{needs}
-use Rattle.crossing.proofs.put_tally.Statement.{statement}
-use Rattle.crossing.proofs.put_tally.Tie as tie
+use Rattle.tally_numbers.proofs.put_tally.Statement.{statement}
+use Rattle.tally_numbers.proofs.put_tally.Tie as tie
 
 -- the struct has eight counts
 eight : (s : tie.Start) → length (s .args .t .operators .paid) ≡ 8

@@ -1,8 +1,8 @@
--- `crossing::feeder::feeder_of` meets its contract: the tally is that of the numbers. Assumes nothing.
-use Rattle.crossing.proofs.RelockCrossed.{feeder-tally}
+-- `relock_crossing::feeder_of` meets its contract: the tally is that of the numbers. Assumes nothing.
+use Rattle.relock_crossing.proofs.RelockCrossed.{feeder-tally}
 use borrow.Author.Needs.{needs}
-use Rattle.crossing.proofs.feeder.feeder_of.Statement.{statement}
-use Rattle.crossing.proofs.feeder.feeder_of.Tie as tie
+use Rattle.relock_crossing.proofs.feeder_of.Statement.{statement}
+use Rattle.relock_crossing.proofs.feeder_of.Tie as tie
 
 tally-of-requires : tie.Need-tally-of-requires
 tally-of-requires c κs = feeder-tally _ _ (c .pre)

@@ -10,7 +10,7 @@ use Rattle.base.specs.Refusal.{_when_, answered}
 use Rattle.relocking.specs.declared.Feeder.{Feeder}
 use Rattle.relocking.specs.declared.Relocked.{Relocked}
 use Rattle.relocking.specs.Relock.{relockRefusal, move, moved, areaMoved}
-use Rattle.crossing.specs.Crossing.{isTally, tallyOf, numbersOf}
+use Rattle.tally_numbers.specs.Numbers.{isTally, tallyOf, numbersOf}
 
 -- the numbers are a feeder's: a tally's, and a flag that is 1 or 0
 unfoldable pub isFeeder : List ℕ → List ℕ → Bool

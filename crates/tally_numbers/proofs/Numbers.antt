@@ -15,7 +15,7 @@ use Rattle.base.specs.Lists.{one}
 use Rattle.base.proofs.Lists.{elements, spelled}
 use Rattle.labelling.specs.declared.Operators.{Operators}
 use Rattle.labelling.specs.declared.Tally.{Tally}
-use Rattle.crossing.specs.Crossing.{runNumbers, weakNumbers, operatorNumbers, isTally, tallyOf, numbersOf, numberCount, Sized, Layout}
+use Rattle.tally_numbers.specs.Numbers.{runNumbers, weakNumbers, operatorNumbers, isTally, tallyOf, numbersOf, numberCount, Sized, Layout}
 
 -- what a list that is a tally's has shown
 pub record Passed (n : List ℕ) : Type 0 where
