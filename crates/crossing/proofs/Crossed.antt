@@ -1,21 +1,25 @@
--- What the reader promises of a call, said of what crosses: the lent places are a function of its answer. A refused call's answer has the
--- area that it was lent. Assumes nothing.
+-- What a call in place promises, said of what crosses. Assumes nothing.
 use mathlib.Core.Path.{_≡_, refl, sym, ap, _∙_}
-use mathlib.Core.Bool.{true, false}
+use mathlib.Core.Bool.{Bool, true, false, _&&_}
 use mathlib.Core.List.{List, [], _∷_}
-use Prim.Native.Nat.{ℕ, zero, suc}
+use Prim.Native.Nat.{ℕ, _≤_, _<_}
 use native.Mathlib.Omega.{arith}
-use borrow.Author.Tests.{eq-eqb, ne-eqb}
+use borrow.Author.Tests.{ne-eqb}
 use Rattle.base.specs.Lists.{one}
 use Rattle.labelling.specs.declared.Tally.{Tally}
+use Rattle.labelling.specs.Votes.{ruleVote}
+use Rattle.labelling.specs.Operators.{onDuty}
+use Rattle.labelling.specs.Machine.{stateOf, withOperators}
+use Rattle.labelling.specs.Order.{inOrder}
 use Rattle.labelling.specs.Once.{FreshPromise}
-use Rattle.labelling.specs.Calls.{Answer, answer, takeRefusal, dutyAnswer}
-use Rattle.labelling.proofs.CallLaws.{refused-answer}
-use Rattle.reader.specs.declared.duty.DutyChanged.{DutyChanged}
-use Rattle.reader.specs.declared.Taken.{Taken}
-use Rattle.reader.specs.Shapes.{TakePromise, DutyPromise, callOf as readerCall, dutyCallOf as readerDuty}
-use Rattle.tally_numbers.specs.Numbers.{isTally, tallyOf, numbersOf}
+use Rattle.labelling.specs.Calls.{TakeCall, answer, takeRefusal, dutyAnswer, dutyRefusal}
+use Rattle.labelling.proofs.CallLaws.{duty-not-in-order, no-such-operator, duty-no-refusal, duty-accepted}
+use Rattle.own_sync.proofs.Locks.{up-all}
+use Rattle.reader.specs.Shapes.{partOf}
+use Rattle.tally_numbers.specs.Numbers.{isTally, tallyOf, operatorsOf, numbersOf}
 use Rattle.tally_numbers.proofs.Numbers.{layout}
+use Rattle.in_place.specs.declared.Part.{Part}
+use Rattle.in_place.specs.Places.{InPlace}
 use Rattle.crossing.specs.Crossing.{Lent, lent, callOf, written, takeRefused, takeLeaves, TakeCrossed, FreshCrossed}
 use Rattle.crossing.specs.Crossing.{Places, places, dutyCallOf, tallyPlaces, dutyRefused, dutyLeaves, DutyCrossed}
 
@@ -37,38 +41,38 @@ module _ (l : Lent) (piece : List ℕ) where
   unfolding takeLeaves
   left-as-lent h = rw (ne-eqb (takeRefused l piece) 0 h)
 
-  pub no-tally : isTally (l .numbers) ≡ false → TakeCrossed l piece 1 l
-  unfolding takeRefused
-  no-tally e = record { refusal-is = rw e; left-is = left-as-lent (rw e (λ z. omega arith)) }
-
-  -- the reader's call of the tally that the numbers are
-  module _ (e : isTally (l .numbers) ≡ true) (t : Tally) (is-t : t ≡ tallyOf (l .numbers) (l .frame)) (r : Taken) (area : List ℕ)
-      (p : TakePromise (readerCall t piece (l .area)) r area) where
-    promised : TakePromise (callOf l piece) r area
-    promised = rw is-t at p
-
+  -- the call in place
+  module _ (r : Part) (numbers frame area : List ℕ) (p : InPlace false (callOf l piece) (l .numbers) r numbers frame area) where
     refusal-crossed : r .refusal ≡ takeRefused l piece
     unfolding takeRefused
-    refusal-crossed = rw e (promised .refusal-is)
+    refusal-crossed = go (isTally (l .numbers)) refl
+      where
+        go : (b : Bool) → isTally (l .numbers) ≡ b → r .refusal ≡ takeRefused l piece
+        go true e = rw e (p .refusal-is e)
+        go false e = rw e (p .no-tally e)
 
-    -- accepted: the numbers, the frame and the flag that are written are the answer's
-    pub accepted-crossed : (numbers frame : List ℕ) (complete : ℕ) → numbers ≡ numbersOf (r .tally) → frame ≡ r .tally .frame
-        → complete ≡ one (r .complete) → r .refusal ≡ 0 → TakeCrossed l piece 0 (lent numbers frame area (r .taken ∷ complete ∷ []))
-    accepted-crossed numbers frame complete n f b z = record {
-      refusal-is = sym z ∙ refusal-crossed;
-      left-is = rw (n, f, b) (ap written (promised .answer-is) ∙ left-written (sym refusal-crossed ∙ z));
-    }
+    -- no lock stops it, so that the part is the piece
+    whole : partOf false (callOf l piece) ≡ callOf l piece
+    whole = let c = callOf l piece in rw (up-all (ruleVote (c .tally .rule)) piece (stateOf (c .tally)) (c .area))
 
-    -- the area of a refused call
-    area-kept : (n : ℕ) → takeRefusal (callOf l piece) ≡ n → (n ≡ 0 → ⊥) → area ≡ l .area
-    area-kept zero q h = absurd (h refl)
-    area-kept (suc n) q h = ap (λ (a : Answer). a .area) (promised .answer-is ∙ refused-answer (callOf l piece) n q)
+    pub accepted-crossed : (complete : ℕ) → complete ≡ one (r .complete) → r .refusal ≡ 0
+        → TakeCrossed l piece 0 (lent numbers frame area (r .taken ∷ complete ∷ []))
+    accepted-crossed complete b z =
+        let left = p .accepted z in
+        record {
+          refusal-is = sym z ∙ refusal-crossed;
+          left-is =
+              rw (b, left .numbers-is, left .frame-is, left .area-is, left .taken-is, left .complete-is)
+              (ap (λ (d : TakeCall). written (answer d)) whole ∙ left-written (sym refusal-crossed ∙ z));
+        }
 
-    pub refused-crossed : (r .refusal ≡ 0 → ⊥) → TakeCrossed l piece (r .refusal) (lent (l .numbers) (l .frame) area (l .answer))
-    refused-crossed h = record {
-      refusal-is = refusal-crossed;
-      left-is = rw (area-kept (takeRefusal (callOf l piece)) refl (λ z. h (promised .refusal-is ∙ z))) (left-as-lent (λ z. h (refusal-crossed ∙ z)));
-    }
+    pub refused-crossed : (r .refusal ≡ 0 → ⊥) → TakeCrossed l piece (r .refusal) (lent numbers frame area (l .answer))
+    refused-crossed h =
+        let kept = p .refused h in
+        record {
+          refusal-is = refusal-crossed;
+          left-is = rw (kept .numbers-kept, kept .frame-kept, kept .area-kept) (left-as-lent (λ z. h (refusal-crossed ∙ z)));
+        }
 
 -- ---- a call that names an operator
 
@@ -81,25 +85,34 @@ module _ (l : Places) (k : ℕ) where
   unfolding dutyLeaves
   unchanged h = rw (ne-eqb (dutyRefused l k) 0 h)
 
-  pub duty-no-tally : isTally (l .numbers) ≡ false → DutyCrossed l k 1 l
+  pub duty-not-ordered : (isTally (l .numbers) && inOrder (tallyOf (l .numbers) (l .frame))) ≡ false → DutyCrossed l k 1 l
   unfolding dutyRefused
-  duty-no-tally e = record { refusal-is = rw e; left-is = unchanged (rw e (λ z. omega arith)) }
+  duty-not-ordered e = record { refusal-is = sym number; left-is = unchanged (λ z. omega (arith, number)) }
+    where
+      number : dutyRefused l k ≡ 1
+      number = go (isTally (l .numbers)) refl
+        where
+          go : (b : Bool) → isTally (l .numbers) ≡ b → dutyRefused l k ≡ 1
+          go true t = rw t (duty-not-in-order (tallyOf (l .numbers) (l .frame)) k (rw t at e))
+          go false t = rw t
 
-  module _ (e : isTally (l .numbers) ≡ true) (t : Tally) (is-t : t ≡ tallyOf (l .numbers) (l .frame)) (r : DutyChanged)
-      (p : DutyPromise (readerDuty t k) r) where
-    answered-so : DutyPromise (dutyCallOf l k) r
-    answered-so = rw is-t at p
-
-    duty-refusal-crossed : r .refusal ≡ dutyRefused l k
+  -- past the test of the order
+  module _ (e : isTally (l .numbers) ≡ true) (o : inOrder (tallyOf (l .numbers) (l .frame)) ≡ true) where
+    refusal-of : dutyRefused l k ≡ dutyRefusal (dutyCallOf l k)
     unfolding dutyRefused
-    duty-refusal-crossed = rw e (answered-so .refusal-is)
+    refusal-of = rw e
 
-    pub duty-accepted-crossed : (numbers frame : List ℕ) → numbers ≡ numbersOf (r .tally) → frame ≡ r .tally .frame → r .refusal ≡ 0
-        → DutyCrossed l k 0 (places numbers frame)
-    duty-accepted-crossed numbers frame n f z = record {
-      refusal-is = sym z ∙ duty-refusal-crossed;
-      left-is = rw (n, f) (ap tallyPlaces (answered-so .tally-is) ∙ changed-written (sym duty-refusal-crossed ∙ z));
-    }
+    pub duty-no-operator : 7 < k → DutyCrossed l k 14 l
+    duty-no-operator h =
+        let number : dutyRefused l k ≡ 14 = refusal-of ∙ no-such-operator (tallyOf (l .numbers) (l .frame)) k o h in
+        record { refusal-is = sym number; left-is = unchanged (λ z. omega (arith, number)) }
 
-    pub duty-refused-crossed : (r .refusal ≡ 0 → ⊥) → DutyCrossed l k (r .refusal) l
-    duty-refused-crossed h = record { refusal-is = duty-refusal-crossed; left-is = unchanged (λ z. h (duty-refusal-crossed ∙ z)) }
+    pub duty-changed : k ≤ 7 → (t : Tally) → t ≡ withOperators (onDuty k (operatorsOf (l .numbers))) (tallyOf (l .numbers) (l .frame))
+        → DutyCrossed l k 0 (tallyPlaces t)
+    duty-changed h t same =
+        let accepted : dutyRefusal (dutyCallOf l k) ≡ 0 = duty-no-refusal (tallyOf (l .numbers) (l .frame)) k o h in
+        let number : dutyRefused l k ≡ 0 = refusal-of ∙ accepted in
+        record {
+          refusal-is = sym number;
+          left-is = ap tallyPlaces (same ∙ sym (duty-accepted (dutyCallOf l k) accepted)) ∙ changed-written number;
+        }

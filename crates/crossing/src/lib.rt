@@ -1,17 +1,14 @@
-// A tally as it crosses to programs in other languages: its numbers and the frame's 128 bytes, which the caller lends. An entry reads
-// them, calls the reader, and writes them back. No number is cut: numbers that are no tally's are refused as a tally not in order is.
+// A tally as it crosses to programs in other languages: its numbers and the frame's 128 bytes, which the caller lends. An entry works
+// on them in place. No number is cut: numbers that are no tally's are refused as a tally not in order is.
 mod duty;
 mod lock;
 
 ghost use Rattle.crossing.specs.Crossing.{lent, TakeCrossed, FreshCrossed};
-use base::refusal::NOT_IN_ORDER;
 pub use duty::change_duty;
 pub use lock::take_to_lock;
 use tally_numbers::NUMBERS;
 use tally_numbers::flag;
-use tally_numbers::is_tally;
 use tally_numbers::put_tally;
-use tally_numbers::tally_of;
 
 // Writes a fresh tally of this rule. Returns the number of the refusal, 0 for none; after a refusal the fresh tally of rule 1 is written. What it
 // promises of the numbers: they are those of a tally, and of that one alone.
@@ -37,16 +34,10 @@ pub fn take(
         (lent (now (numbers .entry)) (now (frame .entry)) (now (area .entry)) (now (answer .entry))) (now (piece .entry)) r
         (lent (now (numbers .exit)) (now (frame .exit)) (now (area .exit)) (now (answer .exit))) ⌝ }
 {
-    if !is_tally(&*numbers) {
-        return NOT_IN_ORDER;
-    }
-    let t = tally_of(&*numbers, &*frame);
-    let r = reader::take(t, piece, area);
+    let r = in_place::take_part(numbers, frame, piece, false, area);
     if r.refusal != 0 {
         return r.refusal;
     }
-    let left = r.tally;
-    put_tally(left, numbers, frame);
     let complete = flag(r.complete);
     *answer = [r.taken as u64, complete];
     0

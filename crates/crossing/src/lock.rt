@@ -1,7 +1,6 @@
 // A call that also stops where a hunt ends, on the numbers that the caller lends.
 ghost use Rattle.crossing.specs.Crossing.{lent};
 ghost use Rattle.crossing.specs.Locking.{LockCrossed};
-use base::refusal::NOT_IN_ORDER;
 use tally_numbers::NUMBERS;
 
 // Takes a piece of the stream, as far as the byte that completes a major frame or ends a hunt. Returns the number of the refusal, 0 for none; a
@@ -17,19 +16,13 @@ pub fn take_to_lock(
         (lent (now (numbers .entry)) (now (frame .entry)) (now (area .entry)) (now (answer .entry))) (now (piece .entry)) r
         (lent (now (numbers .exit)) (now (frame .exit)) (now (area .exit)) (now (answer .exit))) ⌝ }
 {
-    if !tally_numbers::is_tally(&*numbers) {
-        return NOT_IN_ORDER;
+    let r = in_place::take_to_lock(numbers, frame, piece, area);
+    let part = r.part;
+    if part.refusal != 0 {
+        return part.refusal;
     }
-    let t = tally_numbers::tally_of(&*numbers, &*frame);
-    let r = reader::take_to_lock(t, piece, area);
-    let taken = r.taken;
-    if taken.refusal != 0 {
-        return taken.refusal;
-    }
-    let left = taken.tally;
-    tally_numbers::put_tally(left, numbers, frame);
-    let complete = tally_numbers::flag(taken.complete);
+    let complete = tally_numbers::flag(part.complete);
     let locked = tally_numbers::flag(r.locked);
-    *answer = [taken.taken as u64, complete, locked];
+    *answer = [part.taken as u64, complete, locked];
     0
 }

@@ -10,7 +10,7 @@ use labelling::Operators;
 use labelling::Tally;
 use order::in_order;
 
-const LAST_OPERATOR: u64 = 7;
+pub const LAST_OPERATOR: u64 = 7;
 
 // The answer of a call that names an operator.
 pub struct DutyChanged {
@@ -42,7 +42,8 @@ pub fn change_duty(t: Tally, operator: u64) -> DutyChanged
     }
 }
 
-fn on_duty(t: Tally, operator: u64) -> Tally
+// The tally with this operator on duty.
+pub fn on_duty(t: Tally, operator: u64) -> Tally
     ensures { λ r. ⌜ r ≡ withOperators (onDuty operator (t .operators)) t ⌝ }
 {
     let mut o = t.operators;

@@ -1,7 +1,7 @@
 // Reads an unpacked PCD stream in pieces: voted words, minor frames, major frames, and a tally of every byte (paper 01, "From bytes to
 // words" to "The tally and one call"; paper 02, requests 5 and 6). The claim about every list of calls is the contract of `fresh`.
 mod duty;
-mod run;
+pub mod run;
 mod stretch;
 
 ghost use mathlib.Core.Path.{_≡_};
@@ -20,7 +20,9 @@ use base::refusal::NOT_IN_ORDER;
 use base::refusal::TOO_MANY_BYTES;
 use base::refusal::WRONG_LENGTH;
 pub use duty::DutyChanged;
+pub use duty::LAST_OPERATOR;
 pub use duty::change_duty;
+pub use duty::on_duty;
 use labelling::Framing;
 use labelling::Groups;
 use labelling::Operators;
@@ -143,7 +145,7 @@ pub fn take_to_lock(t: Tally, piece: &[u8], area: &mut [u8]) -> Locked
 }
 
 // Whether a call that stops where a hunt ends has ended one. A hunt that began within it shows in the unsynced frame before.
-fn has_locked(before: Framing, after: Framing) -> bool
+pub fn has_locked(before: Framing, after: Framing) -> bool
     ensures { λ r. ⌜ r ≡ lockedBy before after ⌝ }
 {
     !after.hunting & (before.hunting | (after.unsynced != before.unsynced))

@@ -11,11 +11,11 @@ ghost use Rattle.reader.specs.Shapes.{ranOf};
 use crate::stretch;
 use plain_steps::Layers;
 
-pub(crate) struct Ran {
-    pub(crate) layers: Layers,
+pub struct Ran {
+    pub layers: Layers,
     // How far into the piece it ran.
-    pub(crate) at: usize,
-    pub(crate) complete: bool,
+    pub at: usize,
+    pub complete: bool,
 }
 
 // One byte of the piece, by the rule of the tally.
@@ -70,8 +70,9 @@ fn stops(stop: bool, complete: bool, before: bool, after: bool) -> bool
     complete | (stop & (before & !after))
 }
 
-// A piece from its first byte on. A stretch ends no hunt, so that it is enough to look after each plain step.
-pub(crate) fn run(
+// A piece from its first byte on. A stretch ends no hunt, so that it is enough to look after each plain step. A leaf for those that have tested the
+// call: the state is in order, the bytes fit, and the area has its length.
+pub fn run(
     rule: u64,
     stop: bool,
     l: Layers,

@@ -185,13 +185,13 @@ module _ (f : Feeder) (piece old : List ℕ) (a : relockRefusal f (length piece)
   lead-accepted : takeRefusal lead ≡ 0
   lead-accepted = no-refusal (f .tally) leadInBytes old in-tally (accepting .whole-area) (omega (arith, accepting .fits))
 
-  led-is : callOf (s .tally) piece mid ≡ callLed f piece old
+  pub led-is : callOf (s .tally) piece mid ≡ callLed f piece old
   led-is = ap (λ (x : Answer). callOf (x .tally) piece (x .area)) (q .answer-is)
 
   mid-is : answer lead .area ≡ mid
   mid-is = ap (λ (x : Answer). x .area) (sym (q .answer-is))
 
-  led-accepted : takeRefusal (callLed f piece old) ≡ 0
+  pub led-accepted : takeRefusal (callLed f piece old) ≡ 0
   led-accepted =
       let few = accepted-extent lead lead-accepted .within in
       no-refusal (answer lead .tally) piece (answer lead .area) (answer-ordered lead in-tally) (rw mid-is (kept ∙ accepting .whole-area))

@@ -22,7 +22,7 @@ use labelling::Word;
 use order::LIMIT;
 
 // How many bytes a lead-in of spacing 0 has.
-const LEAD_IN: u64 = 12;
+pub const LEAD_IN: u64 = 12;
 
 // What goes from step to step. It begins with a fresh tally, at no lock, with no lead-in handed.
 pub struct Feeder {
@@ -108,7 +108,7 @@ fn refused(f: Feeder, number: u8) -> Relocked
 }
 
 // How many bytes stand before the first SYNC: while a lock awaits its word they are no part of one.
-fn before_group(piece: &[u8]) -> usize
+pub fn before_group(piece: &[u8]) -> usize
     ensures { λ r. ⌜ (r ≡ beforeGroup (now (piece .entry))) × (r ≤ length (now (piece .entry))) ⌝ }
 {
     let mut i: usize = 0;
@@ -145,7 +145,7 @@ fn decide(f: Feeder, piece: &[u8], ends: bool, area: &mut [u8]) -> Relocked
 }
 
 // Whether the word of a group is FA, by a rule; a split group has none.
-fn begins_frame(rule: u64, a: u8, b: u8, c: u8) -> bool
+pub fn begins_frame(rule: u64, a: u8, b: u8, c: u8) -> bool
     ensures { λ r. ⌜ r ≡ isWord (syncWord 0) (ruleVote rule a b c) ⌝ }
 {
     if rule == 2 {

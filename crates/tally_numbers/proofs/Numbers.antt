@@ -15,7 +15,7 @@ use Rattle.base.specs.Lists.{one}
 use Rattle.base.proofs.Lists.{elements, spelled}
 use Rattle.labelling.specs.declared.Operators.{Operators}
 use Rattle.labelling.specs.declared.Tally.{Tally}
-use Rattle.tally_numbers.specs.Numbers.{runNumbers, weakNumbers, operatorNumbers, isTally, tallyOf, numbersOf, numberCount, Sized, Layout}
+use Rattle.tally_numbers.specs.Numbers.{runNumbers, weakNumbers, operatorNumbers, isTally, framingOf, tallyOf, numbersOf, numberCount, Sized, Layout}
 
 -- what a list that is a tally's has shown
 pub record Passed (n : List ℕ) : Type 0 where
@@ -74,6 +74,10 @@ pub written-out : (t : Tally) {first second hunting erasure : ℕ} → first ≡
 written-out t a b c d h = rw (a, b, c, d, each-last (t .operators) (t .rule) h)
 
 -- ---- both ways
+
+-- the second layer needs no bound
+pub framing-back : (t : Tally) → framingOf (numbersOf t) ≡ t .framing
+framing-back t = rw (flag-read (t .framing .hunting), flag-read (t .framing .erasure))
 
 crosses : (t : Tally) → Sized t → isTally (numbersOf t) ≡ true
 unfolding isTally

@@ -39,6 +39,10 @@ numbersOf t =
     groupNumbers (t .groups) ++ framingNumbers (t .framing) ++ runNumbers (t .runs) ++ weakNumbers (t .groups .weak) ++ operatorNumbers (t .operators)
     ++ t .rule ∷ []
 
+-- all of a tally but its frame, which is not among the numbers
+abbrev pub countsOnly : Groups → Framing → Runs → Operators → ℕ → Tally
+countsOnly g f r o rule = record { groups = g; framing = f; runs = r; operators = o; rule = rule; frame = [] }
+
 -- how many they are
 abbrev pub numberCount : ℕ
 numberCount = 33

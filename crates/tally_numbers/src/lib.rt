@@ -4,7 +4,7 @@ ghost use mathlib.Core.Bool.{true};
 ghost use Prim.Native.Nat.{_<_};
 ghost use lib.ListN.{getD};
 ghost use Rattle.base.specs.Lists.{one};
-ghost use Rattle.tally_numbers.specs.Numbers.{isTally, groupsOf, framingOf, runsOf, operatorsOf, tallyOf, numbersOf};
+ghost use Rattle.tally_numbers.specs.Numbers.{isTally, groupsOf, framingOf, runsOf, operatorsOf, tallyOf, countsOnly, numbersOf};
 use base::wide;
 use labelling::Framing;
 use labelling::Groups;
@@ -46,14 +46,24 @@ pub fn put_tally(t: Tally, n: &mut [u64; NUMBERS], frame: &mut [u8; 128])
     ensures { λ _. ⌜ now (n .exit) ≡ numbersOf t ⌝ }
     ensures { λ _. ⌜ now (frame .exit) ≡ t .frame ⌝ }
 {
-    let g = t.groups;
+    let groups = t.groups;
+    let framing = t.framing;
+    let runs = t.runs;
+    let operators = t.operators;
+    put_counts(groups, framing, runs, operators, t.rule, n);
+    let bytes = t.frame;
+    *frame = bytes;
+}
+
+// All of a tally but its frame.
+pub fn put_counts(g: Groups, f: Framing, r: Runs, o: Operators, rule: u64, n: &mut [u64; NUMBERS])
+    ensures { λ _. ⌜ now (n .exit) ≡ numbersOf (countsOnly g f r o rule) ⌝ }
+{
     let first = wide(g.first);
     let second = wide(g.second);
-    let f = t.framing;
     let hunting = flag(f.hunting);
     let erasure = flag(f.erasure);
-    let r = t.runs;
-    let p = t.operators.paid;
+    let p = o.paid;
     *n = [
         g.bytes,
         g.fill,
@@ -86,14 +96,12 @@ pub fn put_tally(t: Tally, n: &mut [u64; NUMBERS], frame: &mut [u8; 128])
         p[5],
         p[6],
         p[7],
-        t.operators.duty,
-        t.rule,
+        o.duty,
+        rule,
     ];
-    let bytes = t.frame;
-    *frame = bytes;
 }
 
-fn groups_of(n: &[u64; NUMBERS]) -> Groups
+pub fn groups_of(n: &[u64; NUMBERS]) -> Groups
     requires { ⌜ (getD (now n) 6 0 < 256) × (getD (now n) 7 0 < 256) ⌝ }
     ensures { λ r. ⌜ r ≡ groupsOf (now (n .entry)) ⌝ }
 {
@@ -114,7 +122,7 @@ fn groups_of(n: &[u64; NUMBERS]) -> Groups
     }
 }
 
-fn framing_of(n: &[u64; NUMBERS]) -> Framing
+pub fn framing_of(n: &[u64; NUMBERS]) -> Framing
     ensures { λ r. ⌜ r ≡ framingOf (now (n .entry)) ⌝ }
 {
     Framing {
@@ -129,7 +137,7 @@ fn framing_of(n: &[u64; NUMBERS]) -> Framing
     }
 }
 
-fn runs_of(n: &[u64; NUMBERS]) -> Runs
+pub fn runs_of(n: &[u64; NUMBERS]) -> Runs
     ensures { λ r. ⌜ r ≡ runsOf (now (n .entry)) ⌝ }
 {
     Runs {
@@ -140,7 +148,7 @@ fn runs_of(n: &[u64; NUMBERS]) -> Runs
     }
 }
 
-fn operators_of(n: &[u64; NUMBERS]) -> Operators
+pub fn operators_of(n: &[u64; NUMBERS]) -> Operators
     ensures { λ r. ⌜ r ≡ operatorsOf (now (n .entry)) ⌝ }
 {
     let paid = [n[23], n[24], n[25], n[26], n[27], n[28], n[29], n[30]];

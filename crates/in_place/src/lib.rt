@@ -1,0 +1,167 @@
+// The reader's calls in place: on the numbers of a tally and on its frame where they lie. The counts are read once and written once, and the frame is
+// filled where it is, so that a call on a small piece costs no copy of a tally.
+ghost use mathlib.Core.Path.{_≡_};
+ghost use mathlib.Core.Bool.{true, _&&_};
+ghost use Prim.Native.Nat.{_+_, _≤_, _^_};
+ghost use lib.ListN.{length, getD};
+ghost use Rattle.base.specs.Format.{minorFrame, majorFrame};
+ghost use Rattle.labelling.specs.Calls.{answer};
+ghost use Rattle.labelling.specs.Order.{inOrder};
+ghost use Rattle.labelling.specs.Operators.{booked};
+ghost use Rattle.order.specs.Room.{DutyRoom};
+ghost use Rattle.reader.specs.Shapes.{partOf};
+ghost use Rattle.tally_numbers.specs.Numbers.{isTally, tallyOf, operatorsOf, numbersOf, countsOnly};
+ghost use Rattle.in_place.specs.Places.{callIn, layersIn, refusedWith, Left, InPlace, LockedInPlace};
+use base::format::MAJOR_FRAME;
+use base::refusal::NOT_IN_ORDER;
+use base::refusal::TOO_MANY_BYTES;
+use base::refusal::WRONG_LENGTH;
+use order::LIMIT;
+use plain_steps::Layers;
+use tally_numbers::NUMBERS;
+
+// Where the eight paid counts begin among the numbers, and where it says who is on duty, and the rule.
+const PAID: usize = 23;
+
+const DUTY: usize = 31;
+
+const RULE: usize = 32;
+
+// The answer of a call.
+pub struct Part {
+    // 0, or the number of the refusal, as of `reader::take`. Numbers that are no tally's are not in order.
+    pub refusal: u8,
+    // How many bytes of the piece were taken.
+    pub taken: usize,
+    // Whether a major frame is complete; the area holds it.
+    pub complete: bool,
+}
+
+// `reader::take` in place, or `reader::take_to_lock`, by whether a lock stops it. A refusal writes nothing.
+pub fn take_part(
+    numbers: &mut [u64; NUMBERS],
+    frame: &mut [u8; 128],
+    piece: &[u8],
+    stop: bool,
+    area: &mut [u8],
+) -> Part
+    ensures { λ r. ⌜ InPlace stop (callIn (now (numbers .entry)) (now (frame .entry)) (now (piece .entry)) (now (area .entry))) (now (numbers .entry)) r
+        (now (numbers .exit)) (now (frame .exit)) (now (area .exit)) ⌝ }
+{
+    if !in_order(&*numbers, &*frame) {
+        return refused(NOT_IN_ORDER);
+    }
+    if area.len() != MAJOR_FRAME {
+        return refused(WRONG_LENGTH);
+    }
+    if LIMIT - numbers[0] < piece.len() as u64 {
+        return refused(TOO_MANY_BYTES);
+    }
+    accepted(numbers, frame, piece, stop, area)
+}
+
+// The answer of a call that also stops at a lock.
+pub struct Locked {
+    pub part: Part,
+    // Whether a hunt has ended, with the last byte that was taken.
+    pub locked: bool,
+}
+
+// `reader::take_to_lock` in place. What it says of a lock beside a refusal has no meaning.
+pub fn take_to_lock(
+    numbers: &mut [u64; NUMBERS],
+    frame: &mut [u8; 128],
+    piece: &[u8],
+    area: &mut [u8],
+) -> Locked
+    ensures { λ r. ⌜ LockedInPlace (callIn (now (numbers .entry)) (now (frame .entry)) (now (piece .entry)) (now (area .entry))) (now (numbers .entry)) r
+        (now (numbers .exit)) (now (frame .exit)) (now (area .exit)) ⌝ }
+{
+    let before = tally_numbers::framing_of(&*numbers);
+    let part = take_part(numbers, frame, piece, true, area);
+    let after = tally_numbers::framing_of(&*numbers);
+    let locked = reader::has_locked(before, after);
+    Locked {
+        part: part,
+        locked: locked,
+    }
+}
+
+// Whether these are the numbers of a tally in order. The frame is not looked at.
+pub fn in_order(numbers: &[u64; NUMBERS], frame: &[u8; 128]) -> bool
+    ensures { λ r. ⌜ r ≡ (isTally (now (numbers .entry)) && inOrder (tallyOf (now (numbers .entry)) (now (frame .entry)))) ⌝ }
+    ensures { λ r. ⌜ (r ≡ true → length (now (frame .entry)) ≡ minorFrame) ⌝ }
+{
+    if !tally_numbers::is_tally(numbers) {
+        return false;
+    }
+    let t = tally_numbers::tally_of(numbers, frame);
+    order::in_order(t)
+}
+
+fn refused(number: u8) -> Part
+    ensures { λ r. ⌜ r ≡ refusedWith number ⌝ }
+{
+    Part {
+        refusal: number,
+        taken: 0,
+        complete: false,
+    }
+}
+
+// The layers are taken out once a call and put back once.
+fn accepted(
+    numbers: &mut [u64; NUMBERS],
+    frame: &mut [u8; 128],
+    piece: &[u8],
+    stop: bool,
+    area: &mut [u8],
+) -> Part
+    requires { ⌜ (isTally (now numbers) ≡ true) × (inOrder (tallyOf (now numbers) (now frame)) ≡ true) ⌝ }
+    requires { ⌜ (length (now frame) ≡ minorFrame) × (length (now area) ≡ majorFrame) × (getD (now numbers) 0 0 + length (now piece) ≤ 2 ^ 40) ⌝ }
+    ensures { λ r. ⌜ (r .refusal ≡ 0) × Left
+        (answer (partOf stop (callIn (now (numbers .entry)) (now (frame .entry)) (now (piece .entry)) (now (area .entry))))) r
+        (now (numbers .exit)) (now (frame .exit)) (now (area .exit)) ⌝ }
+{
+    let rule = numbers[RULE];
+    let layers = layers_of(&*numbers);
+    let r = reader::run::run(rule, stop, layers, piece, frame, area);
+    let left = r.layers;
+    put_layers(left, r.complete, numbers);
+    Part {
+        refusal: 0,
+        taken: r.at,
+        complete: r.complete,
+    }
+}
+
+fn layers_of(n: &[u64; NUMBERS]) -> Layers
+    requires { ⌜ isTally (now n) ≡ true ⌝ }
+    ensures { λ r. ⌜ r ≡ layersIn (now (n .entry)) ⌝ }
+{
+    let groups = tally_numbers::groups_of(n);
+    let framing = tally_numbers::framing_of(n);
+    let runs = tally_numbers::runs_of(n);
+    Layers {
+        groups: groups,
+        framing: framing,
+        runs: runs,
+    }
+}
+
+// The layers, and one more or none paid to whoever is on duty. The other numbers stay.
+fn put_layers(l: Layers, complete: bool, n: &mut [u64; NUMBERS])
+    requires { ⌜ DutyRoom (operatorsOf (now n)) ⌝ }
+    ensures { λ _. ⌜ now (n .exit)
+        ≡ numbersOf (countsOnly (l .groups) (l .framing) (l .runs) (booked complete (operatorsOf (now (n .entry)))) (getD (now (n .entry)) 32 0)) ⌝ }
+{
+    let place = PAID + n[DUTY] as usize;
+    let paid = n[place] + complete as u64;
+    let rule = n[RULE];
+    let operators = tally_numbers::operators_of(&*n);
+    let groups = l.groups;
+    let framing = l.framing;
+    let runs = l.runs;
+    tally_numbers::put_counts(groups, framing, runs, operators, rule, n);
+    n[place] = paid;
+}
