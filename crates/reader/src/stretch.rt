@@ -172,6 +172,12 @@ fn placed_run(l: Layers, piece: &[u8], at: usize, frame: &mut [u8; 128]) -> Reac
             at: r.at,
         };
     }
+    if !voted::group_stands(piece, r.at) {
+        return Reached {
+            layers: next,
+            at: r.at,
+        };
+    }
     voted_run(next, piece, r.at, frame)
 }
 

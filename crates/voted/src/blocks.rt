@@ -184,24 +184,13 @@ fn block(piece: &[u8], before: Run, frame: &mut [u8; 128]) -> Run
     }
 }
 
-// Whether it is worth while to begin a block: a voted group stands there.
-fn begins(piece: &[u8], at: usize) -> bool {
-    if nominal::starts(piece, 4) <= at {
-        return false;
-    }
-    if piece[at] != SYNC {
-        return false;
-    }
-    votes::agreeing(piece, at) != 0
-}
-
 // Blocks, with any FILL after each, as long as they take something.
 pub(crate) fn blocks(piece: &[u8], before: Run, frame: &mut [u8; 128]) -> Run
     requires { ⌜ RunRoom before ⌝ }
     ensures { λ r. ⌜ RunsOn (now (piece .entry)) before (now (frame .entry)) r (now (frame .exit)) ⌝ }
 {
     let mut next = before;
-    let mut more = begins(piece, before.at);
+    let mut more = true;
     while more {
         let placed = next.placed;
         let r = block(piece, next, frame);

@@ -11,3 +11,4 @@ pub use hunting::Passed;
 pub use hunting::pass;
 pub use placing::Filled;
 pub use placing::place;
+pub use votes::group_stands;

@@ -1,8 +1,11 @@
 // The three copies of a group, without branches: which copy is bad cannot be foreseen on a reel with a bad head.
 ghost use mathlib.Core.Path.{_≡_};
+ghost use mathlib.Core.Bool.{false};
 ghost use Prim.Native.Nat.{_+_, _<_};
 ghost use lib.ListN.{length};
-ghost use Rattle.voted.specs.Copies.{copies, copiesAt, IsVoted, wordOf, sideBySide, agreement, Agreed, Agreement};
+ghost use Rattle.voted.specs.Stretches.{Group};
+ghost use Rattle.voted.specs.Copies.{Copies, copies, copiesAt, IsVoted, wordOf, sideBySide, agreement, Agreed, Agreement};
+use base::format::SYNC;
 use base::wide;
 use labelling::Weak;
 
@@ -44,6 +47,19 @@ pub(crate) fn by_masks(a: u8, b: u8, c: u8) -> u8
     ensures { λ r. ⌜ (IsVoted (copies a b c) → r ≡ wordOf (copies a b c)) ⌝ }
 {
     (a & b) | (a & c) | (b & c)
+}
+
+// Whether a group of which two copies are equal stands here.
+pub fn group_stands(piece: &[u8], at: usize) -> bool
+    ensures { λ r. ⌜ (r ≡ false → (g : Copies) → Group (now (piece .entry)) at g → IsVoted g → ⊥) ⌝ }
+{
+    if nominal::starts(piece, 4) <= at {
+        return false;
+    }
+    if piece[at] != SYNC {
+        return false;
+    }
+    agreeing(piece, at) != 0
 }
 
 // How often each copy was the weak one in n groups, of which each has two equal copies: where all three are, each two are counted.

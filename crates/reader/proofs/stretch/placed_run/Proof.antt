@@ -16,20 +16,27 @@ place-run-requires c κs = search needs
 returns : tie.Need-returns
 returns c = search needs
 
+group-stands-requires : tie.Need-group-stands-requires
+group-stands-requires c κs = search needs
+
+returns-2 : tie.Need-returns-2
+returns-2 c = search needs
+
 voted-run-requires : tie.Need-voted-run-requires
 voted-run-requires c κs =
-    let ran = c .before .before .before .before in
+    let stood = c .before .before in
+    let ran = stood .before .before .before .before in
     let s = start ran in
     let reached = ran .place-run .ensures .0 in (
       onward-begun (reached .onward _ (majority 1) (now (s .args .frame))) (s .pre .0),
       (ran .place-run .ensures .1, reached .same-mode ∙ s .pre .1 .1),
     )
 
-returns-2 : tie.Need-returns-2
-returns-2 c =
-    let last = c .before .before .before in
-    let ran = last .before .before in
+returns-3 : tie.Need-returns-3
+returns-3 c =
+    let stood = c .before .before .before in
+    let ran = stood .before .before .before .before in
     (reaches-join (ran .place-run .ensures .0) (c .voted-run .ensures .0), c .voted-run .ensures .1)
 
 pub placed-run-spec : {M : Type 1} → statement M
-placed-run-spec = tie.close (tie.spec place-run-requires returns voted-run-requires returns-2)
+placed-run-spec = tie.close (tie.spec place-run-requires returns group-stands-requires returns-2 voted-run-requires returns-3)

@@ -23,11 +23,8 @@ fewer-left : (t : Bool) (a b : ℕ) → ltb a b ≡ t → a ≤ lastPlace → b 
 fewer-left true a b e h l = omega (arith, ltb-true a b e)
 fewer-left false a b e h l = omega arith
 
-begins-requires : tie.Need-begins-requires Inv-loop μ-loop
-begins-requires c κs = search needs
-
 loop-holds : tie.Need-loop-holds Inv-loop μ-loop
-loop-holds c = record { kept = λ i q f k. k; has-room = c .before .before .pre }
+loop-holds c = record { kept = λ i q f k. k; has-room = c .before .pre }
 
 block-requires : tie.Need-block-requires Inv-loop μ-loop
 block-requires c κs = c .before .before .loop .inv .has-room
@@ -62,7 +59,6 @@ blocks-spec =
     (tie.spec
     Inv-loop
     μ-loop
-    begins-requires
     loop-holds
     block-requires
     skip-fill-requires
