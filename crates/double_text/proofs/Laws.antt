@@ -3,7 +3,8 @@ use mathlib.Core.Path.{_≡_, refl, sym, ap, subst, _∙_}
 use mathlib.Core.Bool.{Bool, true, false, _&&_, cond}
 use mathlib.Core.List.{List, [], _∷_, _++_, append-nil}
 use Prim.Native.Nat.{ℕ, zero, suc, _+_, _-_, _*_, _/_, _%_, _^_, _≤_, _<_}
-use native.Mathlib.Nat.{le-refl, le-of-suc-le-suc, not-suc-le-zero, mod-lt, add-assoc, add-mul, mul-assoc, mul-right-comm, mul-add-div-right, mul-add-mod-self-right, pow-zero, pow-suc}
+use native.Mathlib.Nat.{le-refl, le-of-suc-le-suc, not-suc-le-zero, mod-lt, add-assoc, add-mul, mul-assoc, mul-right-comm}
+use native.Mathlib.Nat.{mul-add-div-right, mul-add-mod-self-right, pow-zero, pow-suc}
 use native.Mathlib.Numerals.{add-one}
 use native.Mathlib.Omega.{arith}
 use lib.Dec.{T, eqb, ltb}
@@ -26,7 +27,7 @@ length-digits (suc k) n =
     let last = glyph (n % 10) ∷ [] in
     omega (arith, length-append (digits 10 k (n / 10)) last, length-digits k (n / 10))
 
-glyph-is : (d : ℕ) → d < 10 → glyph d ≡ 48 + d
+pub glyph-is : (d : ℕ) → d < 10 → glyph d ≡ 48 + d
 glyph-is d h = rw (lt-ltb d 10 h)
 
 -- what is stored at j stands in front of what follows

@@ -43,8 +43,8 @@ returns c =
     let asked = found .before .before .before in
     let item = sym (asked .describe .ensures .answer) ∙ found .before .found .given .1 in
     let bytes = valued .before .part .ensures .contents in
-    rw (item, ← reading .read .ensures .answer, ← bytes)
-    (adds-append (adds-append (adds-append (placed .put-place .ensures) (formed .put-form .ensures)) (named .put-description .ensures)) (valued .put-reading .ensures))
+    let named-so-far = adds-append (adds-append (placed .put-place .ensures) (formed .put-form .ensures)) (named .put-description .ensures) in
+    rw (item, ← reading .read .ensures .answer, ← bytes) (adds-append named-so-far (valued .put-reading .ensures))
 
 enum-known-number : tie.Need-enum-known-number
 enum-known-number c = search needs

@@ -41,7 +41,8 @@ returns c =
     let numbered = placed .before .before .before .before .before in
     let kinded = numbered .before .before .before .before .before in
     let framed = kinded .before .before .before .before .before in
-    adds-append (adds-append (adds-append (adds-append (framed .put-number .ensures) (kinded .put-field .ensures)) (numbered .put-field2 .ensures)) (placed .put-field3 .ensures)) (sized .put-field4 .ensures)
+    let to-number = adds-append (adds-append (framed .put-number .ensures) (kinded .put-field .ensures)) (numbered .put-field2 .ensures) in
+    adds-append (adds-append to-number (placed .put-field3 .ensures)) (sized .put-field4 .ensures)
 
 pub put-place-spec : {M : Type 1} → statement M
 put-place-spec =

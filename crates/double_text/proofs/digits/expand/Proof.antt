@@ -41,7 +41,8 @@ loop-again c =
     let spelled = looped .before .before .before .spell .last .0 in
     let start = looped .before .before .before .before .before .before in
     let product = c .before .before .multiply in
-    let once-more = grown (start .args .n) (start .args .factor) (length spelled) (l .i) (l .digits) (product .last .0) (l .inv .0) (l .inv .2) (product .ensures) in
+    let n = start .args .n in
+    let once-more = grown n (start .args .factor) (length spelled) (l .i) (l .digits) (product .last .0) (l .inv .0) (l .inv .2) (product .ensures) in
     (as-many (product .last .0) (length spelled) _ once-more, omega arith, once-more)
 
 same-length : tie.Need-same-length Inv-loop μ-loop

@@ -54,7 +54,9 @@ returns c =
     let hour = minute .before .before .before .before .before in
     let day = hour .before .before .before .before .before in
     let year = day .before .before .before .before .before in
-    adds-append (adds-append (adds-append (adds-append (adds-append (year .put-part .ensures) (day .put-part2 .ensures)) (hour .put-part3 .ensures)) (minute .put-part4 .ensures)) (second .put-part5 .ensures)) (fraction .put-part6 .ensures)
+    let to-hour = adds-append (adds-append (year .put-part .ensures) (day .put-part2 .ensures)) (hour .put-part3 .ensures) in
+    let to-second = adds-append (adds-append to-hour (minute .put-part4 .ensures)) (second .put-part5 .ensures) in
+    adds-append to-second (fraction .put-part6 .ensures)
 
 pub put-clock-spec : {M : Type 1} → statement M
 put-clock-spec =

@@ -56,7 +56,16 @@ returns c =
     let b2 = b3 .before in
     let b1 = b2 .before in
     let b0 = b1 .before in
-    rw (← b0 .bit-glyph .ensures, ← b1 .bit-glyph2 .ensures, ← b2 .bit-glyph3 .ensures, ← b3 .bit-glyph4 .ensures, ← b4 .bit-glyph5 .ensures, ← b5 .bit-glyph6 .ensures, ← b6 .bit-glyph7 .ensures, ← b7 .bit-glyph8 .ensures)
+    rw (
+      ← b0 .bit-glyph .ensures,
+      ← b1 .bit-glyph2 .ensures,
+      ← b2 .bit-glyph3 .ensures,
+      ← b3 .bit-glyph4 .ensures,
+      ← b4 .bit-glyph5 .ensures,
+      ← b5 .bit-glyph6 .ensures,
+      ← b6 .bit-glyph7 .ensures,
+      ← b7 .bit-glyph8 .ensures,
+    )
     (adds-append (valued .put .ensures) (ended .put2 .ensures))
 
 pub put-flags-spec : {M : Type 1} → statement M
