@@ -1,0 +1,3 @@
+pub mod Descriptions
+pub mod Values
+pub mod ItemLines
