@@ -76,7 +76,7 @@ fn keep(area: &mut [u8], bits: u64, frame: &[u8], omitted: u64) -> Brought
 }
 
 // How many frames are held: the bits are those of so many slots from the first on. 4 where they are not.
-fn held(bits: u64) -> u64
+pub fn held(bits: u64) -> u64
     ensures { λ r. ⌜ r ≡ heldIn bits ⌝ }
 {
     if bits == 0 {
