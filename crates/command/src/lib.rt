@@ -26,6 +26,7 @@ pub use saying::refuse;
 pub use saying::say;
 pub use saying::show;
 pub use text::put;
+pub use text::put_byte;
 pub use text::put_field;
 pub use text::put_joined;
 pub use text::put_number;

@@ -39,7 +39,7 @@ pub fn put_field(out: &mut [u8], at: usize, name: &[u8], n: u64) -> usize
     put_number(out, middle, n)
 }
 
-fn put_byte(out: &mut [u8], at: usize, b: u8) -> usize
+pub fn put_byte(out: &mut [u8], at: usize, b: u8) -> usize
     ensures { λ r. ⌜ Adds (now (out .entry)) at (b ∷ []) (now (out .exit)) r ⌝ }
 {
     if at < out.len() {
