@@ -1,7 +1,7 @@
 // Cycles from the major frames of standard input, and the year that they are read with: what the programs over cycles share. What is left out is said
 // on standard error, each line after the program's name.
 ghost use mathlib.Core.Path.{_≡_};
-ghost use mathlib.Core.Bool.{true, false};
+ghost use mathlib.Core.Bool.{false};
 ghost use Rattle.command.specs.Text.{Adds};
 ghost use Rattle.cycle_input.specs.Reading.{ReadPromise, YearPromise, framesText};
 use base::format::MAJOR_FRAME;
@@ -22,7 +22,7 @@ const LINE: usize = 64;
 
 // Reads on behind so many frames, until the area of 65,536 bytes holds a cycle or standard input ends. Frames that are in no cycle are said.
 pub fn next_cycle(program: &[u8], year: u64, area: &mut [u8], before: u64) -> Read
-    ensures { λ r. ⌜ ReadPromise year (now (area .exit)) r ⌝ }
+    ensures { λ r. ⌜ ReadPromise year before (now (area .exit)) r ⌝ }
 {
     let mut space = [0u8; MAJOR_FRAME];
     let frame: &mut [u8] = &mut space;
@@ -31,7 +31,7 @@ pub fn next_cycle(program: &[u8], year: u64, area: &mut [u8], before: u64) -> Re
 
 // The same with a room for a frame.
 fn gather(program: &[u8], year: u64, area: &mut [u8], before: u64, frame: &mut [u8]) -> Read
-    ensures { λ r. ⌜ ReadPromise year (now (area .exit)) r ⌝ }
+    ensures { λ r. ⌜ ReadPromise year before (now (area .exit)) r ⌝ }
 {
     let mut frames = before;
     let mut bits: u64 = 0;
@@ -78,7 +78,7 @@ fn stopped(program: &[u8], frames: u64, bits: u64, length: usize, failed: bool) 
 }
 
 fn found(frames: u64) -> Read
-    ensures { λ r. ⌜ r .whole ≡ true ⌝ }
+    ensures { λ r. ⌜ r .frames ≡ frames ⌝ }
 {
     Read {
         whole: true,
@@ -108,18 +108,22 @@ fn first_held(frames: u64, bits: u64) -> u64 {
     frames - held
 }
 
-// The line of so many frames from this one on that are in no cycle; none where there are none.
 fn say_left_out(program: &[u8], first: u64, count: u64) {
+    say_of(program, first, count, b"in no cycle");
+}
+
+// A line of so many frames from this one on; none where there are none.
+pub fn say_of(program: &[u8], first: u64, count: u64, words: &[u8]) {
     if count == 0 {
         return;
     }
     let mut space = [0u8; LINE];
-    say_left_out_in(program, first, count, &mut space);
+    say_of_in(program, first, count, words, &mut space);
 }
 
-fn say_left_out_in(program: &[u8], first: u64, count: u64, text: &mut [u8]) {
+fn say_of_in(program: &[u8], first: u64, count: u64, words: &[u8], text: &mut [u8]) {
     let n = put_frames(&mut *text, first, count);
-    command::say(program, &text[..n], b"in no cycle");
+    command::say(program, &text[..n], words);
 }
 
 // `frame 7`, or `frames 7 and 2 after it`.

@@ -1,6 +1,6 @@
 -- `cycle_input::gather` meets its contract: the bits and the area are what the frames so far leave, and each turn takes one frame more. Assumes nothing.
 use mathlib.Core.Path.{_≡_, refl, sym, _∙_}
-use Prim.Native.Nat.{_-_, _^_}
+use Prim.Native.Nat.{_-_, _^_, _≤_}
 use native.Mathlib.Omega.{arith}
 use borrow.Author.Needs.{needs}
 use lib.ListN.{length}
@@ -11,7 +11,7 @@ use Rattle.cycle_input.proofs.gather.Statement.{statement}
 use Rattle.cycle_input.proofs.gather.Tie as tie
 
 abbrev Inv-loop : tie.InvT-loop
-Inv-loop program year area₀ before frame₀ frames₀ bits₀ t10 area frame frames bits = Going year bits area × (length area ≡ length area₀) × (length frame ≡ length frame₀)
+Inv-loop program year area₀ before frame₀ frames₀ bits₀ t10 area frame frames bits = Going year bits area × (length area ≡ length area₀) × (length frame ≡ length frame₀) × (before ≤ frames)
 
 abbrev μ-loop : tie.MeasureT-loop
 μ-loop program year area₀ before frame₀ frames₀ bits₀ t10 area frame frames bits = 2 ^ 64 - frames
@@ -21,7 +21,7 @@ abbrev going : tie.After-next Inv-loop μ-loop → tie.At-loop Inv-loop μ-loop
 going took = took .before .before .before .before .before .before .before .before .before .before
 
 loop-holds : tie.Need-loop-holds Inv-loop μ-loop
-loop-holds c = (record { frames = []; cycles = []; left = 0; so-far = begun _ }, refl, refl)
+loop-holds c = (record { frames = []; cycles = []; left = 0; so-far = begun _ }, refl, refl, omega arith)
 
 fill-requires : tie.Need-fill-requires Inv-loop μ-loop
 fill-requires c κs = search needs
@@ -82,7 +82,7 @@ returns-3 c =
     let accepted = c .before .before .before .before in
     let took = accepted .before .before .before .before in
     let looped = going took in
-    came-whole (looped .loop .inv .0) (took .next .ensures) (accepted .if2 .left) (c .before .if3 .taken) _
+    came-whole (looped .loop .inv .0) (took .next .ensures) (accepted .if2 .left) (c .before .if3 .taken) _ _ (omega (arith, c .found .ensures))
 
 loop-less : tie.Need-loop-less Inv-loop μ-loop
 loop-less c = omega arith
@@ -92,7 +92,7 @@ loop-again c =
     let accepted = c .before .before .before in
     let took = accepted .before .before .before .before in
     let looped = going took in
-    (went-on (looped .loop .inv .0) (took .next .ensures) (accepted .if2 .left) (c .if3 .left), search needs, search needs)
+    (went-on (looped .loop .inv .0) (took .next .ensures) (accepted .if2 .left) (c .if3 .left), search needs, search needs, omega arith)
 
 ended-requires-2 : tie.Need-ended-requires-2 Inv-loop μ-loop
 ended-requires-2 c κs = search needs
