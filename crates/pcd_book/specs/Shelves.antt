@@ -4,7 +4,6 @@ use mathlib.Core.Bool.{Bool, true, false, _||_}
 use mathlib.Core.List.{List, _++_}
 use Prim.Native.Nat.{ℕ, _+_, _*_, _≤_, _<_}
 use lib.Dec.{eqb, ltb}
-use lib.ListN.{length}
 use Rattle.book.specs.Faults.{viewRefusal}
 use Rattle.book.specs.Layout.{yearSaid, cyclesOf}
 use Rattle.book.specs.Writing.{bodiesIn}
@@ -12,17 +11,17 @@ use Rattle.command.specs.Text.{ascii, decimal}
 use Rattle.cycle.specs.Cycle.{cycleLength}
 use Rattle.pcd_book.specs.declared.gathering.Shelf.{Shelf}
 
--- ---- rooms
+-- ---- rooms of so many bytes
 
 -- for some cycles, 255 at most, and the frames of one more
-pub record Roomy (bodies : List ℕ) : Type 0 where
-  pub least : cycleLength ≤ length bodies
-  pub most : length bodies ≤ cycleLength * 256
+pub record Roomy (size : ℕ) : Type 0 where
+  pub least : cycleLength ≤ size
+  pub most : size ≤ cycleLength * 256
 
 -- the frames of one more than is gathered
-pub record Fits (bodies : List ℕ) (s : Shelf) : Type 0 where
-  pub roomy : Roomy bodies
-  pub one-more : cycleLength * (s .cycles + 1) ≤ length bodies
+pub record Fits (size : ℕ) (s : Shelf) : Type 0 where
+  pub roomy : Roomy size
+  pub one-more : cycleLength * (s .cycles + 1) ≤ size
 
 -- ---- what a cycle does
 
@@ -42,8 +41,8 @@ pub record EndPromise (s r : Shelf) : Type 0 where
   pub over : r .more ≡ false
 
 -- a turn keeps a room for the next; where more may come, more frames were read
-pub record TurnPromise (bodies : List ℕ) (s r : Shelf) : Type 0 where
-  pub fits : Fits bodies r
+pub record TurnPromise (size : ℕ) (s r : Shelf) : Type 0 where
+  pub fits : Fits size r
   pub further : r .more ≡ true → s .frames < r .frames
 
 -- ---- the book

@@ -1,6 +1,7 @@
 // The bodies of a book, one behind the other, as the cycles of standard input come.
 ghost use mathlib.Core.Path.{_≡_};
 ghost use Prim.Native.Nat.{_<_};
+ghost use lib.ListN.{length};
 ghost use Rattle.command.specs.Text.{Adds};
 ghost use Rattle.pcd_book.specs.Shelves.{Roomy, Fits, TurnPromise, EndPromise, risesAbove, leftOut, addedTo, roomText};
 use command::put;
@@ -26,8 +27,8 @@ const FRAMES: u64 = 4;
 // Puts the cycles of standard input end to end, as far as they rise and there is room: the room has a cycle's bytes more than it may hold, in which frames
 // are held. A line says what is left out.
 pub(crate) fn gather(year: u64, bodies: &mut [u8]) -> Shelf
-    requires { ⌜ Roomy (now bodies) ⌝ }
-    ensures { λ r. ⌜ Fits (now (bodies .exit)) r ⌝ }
+    requires { ⌜ Roomy (length (now bodies)) ⌝ }
+    ensures { λ r. ⌜ Fits (length (now (bodies .entry))) r ⌝ }
 {
     let mut shelf = begun();
     loop {
@@ -53,9 +54,10 @@ fn begun() -> Shelf
 
 // The next cycle.
 fn turn(year: u64, bodies: &mut [u8], s: Shelf) -> Shelf
-    requires { ⌜ Fits (now bodies) s ⌝ }
-    ensures { λ r. ⌜ TurnPromise (now (bodies .exit)) s r ⌝ }
+    requires { ⌜ Fits (length (now bodies)) s ⌝ }
+    ensures { λ r. ⌜ TurnPromise (length (now (bodies .entry))) s r ⌝ }
 {
+    let room = bodies.len();
     let start = CYCLE * s.cycles;
     let end = start + CYCLE;
     let read = cycle_input::next_cycle(b"pcd-book", year, &mut bodies[start..end], s.frames);
@@ -67,7 +69,7 @@ fn turn(year: u64, bodies: &mut [u8], s: Shelf) -> Shelf
         say_of_cycle(read.frames, b"a cycle whose instant does not rise");
         return left_out(s, read.frames);
     }
-    if bodies.len() - end < CYCLE {
+    if room - end < CYCLE {
         say_no_room(read.frames, s.cycles as u64);
         return left_out(s, read.frames);
     }

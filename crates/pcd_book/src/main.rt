@@ -4,6 +4,7 @@
 mod gathering;
 mod writing;
 
+ghost use lib.ListN.{length};
 ghost use Rattle.pcd_book.specs.Shelves.{Roomy};
 use command::LARGE_ROOM;
 use command::Parsed;
@@ -34,12 +35,11 @@ fn write_from(i: usize, count: usize) -> bool {
     if count - i < 2 {
         return true;
     }
-    let mut done = false;
     if few_at(i + 1) {
-        done = in_small_rooms(i);
-    } else {
-        done = in_large_rooms(i);
+        let done = in_small_rooms(i);
+        return write_from(i + 2, count) & done;
     }
+    let done = in_large_rooms(i);
     write_from(i + 2, count) & done
 }
 
@@ -60,7 +60,7 @@ fn in_small_rooms(i: usize) -> bool {
 }
 
 fn gather_small(i: usize, bodies: &mut [u8]) -> bool
-    requires { ⌜ Roomy (now bodies) ⌝ }
+    requires { ⌜ Roomy (length (now bodies)) ⌝ }
 {
     let year = cycle_input::year_at(b"pcd-book", i);
     if year == 0 {
@@ -71,7 +71,7 @@ fn gather_small(i: usize, bodies: &mut [u8]) -> bool
         return false;
     }
     let n = CYCLE * shelf.cycles;
-    write_small(year, &bodies[..n]) & shelf.all
+    write_small(year, &bodies[0..n]) & shelf.all
 }
 
 fn write_small(year: u64, bodies: &[u8]) -> bool {
@@ -87,7 +87,7 @@ fn in_large_rooms(i: usize) -> bool {
 }
 
 fn gather_large(i: usize, bodies: &mut [u8]) -> bool
-    requires { ⌜ Roomy (now bodies) ⌝ }
+    requires { ⌜ Roomy (length (now bodies)) ⌝ }
 {
     let year = cycle_input::year_at(b"pcd-book", i);
     if year == 0 {
@@ -98,7 +98,7 @@ fn gather_large(i: usize, bodies: &mut [u8]) -> bool
         return false;
     }
     let n = CYCLE * shelf.cycles;
-    write_large(year, &bodies[..n]) & shelf.all
+    write_large(year, &bodies[0..n]) & shelf.all
 }
 
 fn write_large(year: u64, bodies: &[u8]) -> bool {

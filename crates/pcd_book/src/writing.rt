@@ -13,7 +13,7 @@ pub(crate) fn write(year: u64, bodies: &[u8], room: &mut [u8]) -> bool {
         command::say(b"pcd-book", b"the book", b"the room does not hold it");
         return false;
     }
-    write_made(year, bodies, &mut room[..length])
+    write_made(year, bodies, &mut room[0..length])
 }
 
 fn write_made(year: u64, bodies: &[u8], out: &mut [u8]) -> bool {
