@@ -4,12 +4,10 @@ use mathlib.Core.List.{List, [], _∷_, _++_}
 use Prim.Native.Nat.{ℕ, _/_, _%_}
 use Prim.Native.String.{String}
 use lib.Dec.{eqb}
-use lib.IntN.{ℤ}
 use lib.Ieee.{Float}
 use Rattle.base.specs.Lists.{concatMap}
 use Rattle.command.specs.Lines.{lineIn}
 use Rattle.command.specs.Text.{ascii, decimal}
-use Rattle.csv.specs.Fields.{integerText}
 use Rattle.double_text.specs.Decimal.{doubleText}
 use Rattle.pcd_orbit.specs.declared.rows.Row.{Row}
 
@@ -39,7 +37,7 @@ refusalText number = cond (eqb number 0) (ascii ",") (ascii "," ++ decimal numbe
 -- record, item and unit of each value, between commas
 abbrev pub names : List String
 names =
-      ",ephemeris,x,m,"
+    ",ephemeris,x,m,"
     ∷ ",ephemeris,y,m,"
     ∷ ",ephemeris,z,m,"
     ∷ ",ephemeris,vx,m/ms,"
@@ -77,6 +75,3 @@ rowText row name value = cond (eqb (row .refusal) 0) ((startText row name ++ val
 
 abbrev pub doubleRow : Row → ℕ → Float → List ℕ
 doubleRow row name value = rowText row name (doubleText value)
-
-abbrev pub integerRow : Row → ℕ → ℤ → List ℕ
-integerRow row name value = rowText row name (integerText value)

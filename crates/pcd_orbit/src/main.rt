@@ -4,7 +4,8 @@
 mod records;
 mod rows;
 
-const HEADER: [u8; 101] = *b"cycle,frame,record,item,unit,value,refusal,instant,year,day,hour,minute,second,millisecond,sixteenth\n";
+const HEADER: [u8; 101] =
+    *b"cycle,frame,record,item,unit,value,refusal,instant,year,day,hour,minute,second,millisecond,sixteenth\n";
 
 fn main() {
     let year = cycle_input::year_at(b"pcd-orbit", 2);

@@ -159,7 +159,19 @@ fn put_temperatures(out: &mut [u8], row: Row, temperatures: Temperatures) -> usi
     ensures { λ r. ⌜ Counts r (now (out .exit)) ⌝ }
 {
     let a = put_double_row(&mut *out, 0, row, rows::TEMPERATURES, temperatures.temp1);
-    let b = put_double_row(&mut *out, a, row, rows::TEMPERATURES + 1, temperatures.temp2);
-    let c = put_double_row(&mut *out, b, row, rows::TEMPERATURES + 2, temperatures.temp3);
+    let b = put_double_row(
+        &mut *out,
+        a,
+        row,
+        rows::TEMPERATURES + 1,
+        temperatures.temp2,
+    );
+    let c = put_double_row(
+        &mut *out,
+        b,
+        row,
+        rows::TEMPERATURES + 2,
+        temperatures.temp3,
+    );
     put_double_row(out, c, row, rows::TEMPERATURES + 3, temperatures.temp4)
 }

@@ -1,6 +1,7 @@
 // A value of a record as a line of text.
 ghost use Rattle.command.specs.Text.{Adds};
-ghost use Rattle.pcd_orbit.specs.Rows.{pairText, dateText, clockText, whenText, refusalText, startText, endText, doubleRow, integerRow};
+ghost use Rattle.io.specs.Counts.{Counts};
+ghost use Rattle.pcd_orbit.specs.Rows.{pairText, dateText, clockText, whenText, refusalText, startText, endText, doubleRow};
 use command::put;
 use command::put_field;
 use command::put_number;
@@ -72,7 +73,7 @@ pub(crate) fn put_double_row(out: &mut [u8], at: usize, row: Row, name: usize, v
 
 // The line of a value that is an integer.
 pub(crate) fn put_integer_row(out: &mut [u8], at: usize, row: Row, name: usize, value: i64) -> usize
-    ensures { λ r. ⌜ Adds (now (out .entry)) at (integerRow row name value) (now (out .exit)) r ⌝ }
+    ensures { λ r. ⌜ Counts r (now (out .exit)) ⌝ }
 {
     let begun = put_start(&mut *out, at, row, name);
     if row.refusal != 0 {
@@ -129,12 +130,7 @@ fn put_date(out: &mut [u8], at: usize, year: u64, instant: u64) -> usize
 fn put_clock(out: &mut [u8], at: usize, instant: u64) -> usize
     ensures { λ r. ⌜ Adds (now (out .entry)) at (clockText instant) (now (out .exit)) r ⌝ }
 {
-    let told = put_pair(
-        &mut *out,
-        at,
-        instant / MINUTE % 60,
-        instant / SECOND % 60,
-    );
+    let told = put_pair(&mut *out, at, instant / MINUTE % 60, instant / SECOND % 60);
     put_pair(out, told, instant / 16 % 1000, instant % 16)
 }
 
