@@ -37,7 +37,7 @@ same-length c = search needs
 returns : tie.Need-returns
 returns c =
     let s = c .before .before .before .before in
-    (kept-whole _ _ (s .store .result .bits) (start s .pre .2) (bits-are s) (c .if1 .taken), s .store .ensures .after ∙ placed s .leaves)
+    (kept-whole _ _ (s .store .result .bits) (start s .pre .2) (bits-are s) (omega (arith, c .if1 .taken)), s .store .ensures .after ∙ placed s .leaves)
 
 same-length-2 : tie.Need-same-length-2
 same-length-2 c = search needs
@@ -45,7 +45,7 @@ same-length-2 c = search needs
 returns-2 : tie.Need-returns-2
 returns-2 c =
     let s = c .before .before .before .before in
-    (kept-more _ _ _ (start s .pre .2) (bits-are s) (c .if1 .left), s .store .ensures .after ∙ placed s .leaves)
+    (kept-more _ _ _ (start s .pre .2) (bits-are s) (λ all. c .if1 .left (omega (arith, all))), s .store .ensures .after ∙ placed s .leaves)
 
 pub keep-spec : {M : Type 1} → statement M
 keep-spec = tie.close (tie.spec store-requires same-length returns same-length-2 returns-2)
