@@ -4,29 +4,8 @@
 # Ends with status 1 where something differs.
 set -uo pipefail
 cd "$(dirname "${BASH_SOURCE[0]}")/.."
-work=$(mktemp -d)
-trap 'rm -rf "$work"' EXIT
-failed=0
-for program in pcd_book_check pcd_find pcd_book_compare; do
-    [ -x "target/bin/$program" ] || rt check "$program" >&2 || exit 1
-done
-
-# knock NAME STATUS OUT ERR COMMAND: runs the command; OUT is the standard output wanted, ERR what a line on standard error must contain, or
-# `none` where there must be none.
-knock() {
-    local name=$1 status=$2 out=$3 err=$4 got said=ok
-    (eval "timeout 60 $5") >"$work/out" 2>"$work/err"
-    got=$?
-    [ "$got" -eq "$status" ] || said="ends with status $got, not $status"
-    [ "$(cat "$work/out")" = "$out" ] || said="writes to standard output: $(head -c 300 "$work/out")"
-    if [ "$err" = none ]; then
-        [ ! -s "$work/err" ] || said="writes to standard error: $(head -c 300 "$work/err")"
-    else
-        grep -q -- "$err" "$work/err" || said="writes to standard error: $(head -c 300 "$work/err")"
-    fi
-    echo "  $name: $said"
-    [ "$said" = ok ] || failed=1
-}
+. tests/knock.sh
+built pcd_book_check pcd_find pcd_book_compare
 
 python3 - "$work" <<'P' || exit 1
 import os, sys
@@ -74,5 +53,4 @@ knock 'a stack that cannot be raised, a small book' 0 "$work/small: yes" 'cannot
 knock 'a stack that cannot be raised, a large book' 1 '' 'cannot be raised' "bash -c 'ulimit -H -s 8192; $check $work/large'"
 knock 'the help' 0 "$($check --help)" none "$check --help"
 
-[ "$failed" -eq 0 ] && echo 'book knocks: all as stated' || echo 'book knocks: something differs'
-exit "$failed"
+knocked 'book knocks'

@@ -38,6 +38,10 @@ isKind y k frame = answersKind k (columnKind y (gathered frame))
 unfoldable pub isMajor : ℕ → ℕ → List ℕ → Bool
 isMajor y k frame = allNumbered frame && isKind y k frame
 
+-- so is a major frame alone: 16,384 bytes, its minor frames numbered, its column of kind k
+unfoldable pub isFrame : ℕ → ℕ → List ℕ → Bool
+isFrame y k frame = eqb (length frame) majorFrame && isMajor y k frame
+
 -- the body of a cycle of the year y
 unfoldable pub isCycle : ℕ → List ℕ → Bool
 isCycle y body = eqb (length body) cycleLength && each (λ k. isMajor y k (row majorFrame body k)) 0 4

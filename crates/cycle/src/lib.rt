@@ -4,7 +4,7 @@ ghost use mathlib.Core.Path.{_≡_};
 ghost use Prim.Native.Nat.{_≤_, _<_};
 ghost use lib.Dec.{eqb};
 ghost use lib.ListN.{length, getD};
-ghost use Rattle.cycle.specs.Cycle.{isNumbered, allNumbered, isKind, isMajor, isCycle, timeBytes, instantOf};
+ghost use Rattle.cycle.specs.Cycle.{isNumbered, allNumbered, isKind, isMajor, isFrame, isCycle, timeBytes, instantOf};
 use base::format;
 
 // The bytes of a cycle.
@@ -42,6 +42,17 @@ pub fn instant(year: u64, body: &[u8]) -> u64
         time_code::Decoded::Time(t) => t.instant,
         time_code::Decoded::Refused(_) => 0,
     }
+}
+
+// Whether a major frame is one that a cycle of this year may hold as its frame of this kind: 16,384 bytes, each minor frame with its sync bytes and
+// its number, and a column of this kind.
+pub fn is_frame(year: u64, kind: u64, frame: &[u8]) -> bool
+    ensures { λ r. ⌜ r ≡ isFrame year kind (now (frame .entry)) ⌝ }
+{
+    if frame.len() != format::MAJOR_FRAME {
+        return false;
+    }
+    is_major(year, kind as usize, frame)
 }
 
 fn is_major(year: u64, kind: usize, frame: &[u8]) -> bool

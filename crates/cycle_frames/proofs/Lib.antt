@@ -1,0 +1,4 @@
+pub mod Frames
+pub mod Bytes
+pub mod Calls
+pub mod Stored
