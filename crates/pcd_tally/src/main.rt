@@ -1,7 +1,5 @@
 // Reads standard input to its end and writes the tally of its bytes. Where the input cannot be read to its end, has more than 2^40
 // bytes, or the tally cannot be written, a line on standard error says so, and no tally is written.
-mod text;
-
 ghost use mathlib.Core.Path.{_≡_};
 ghost use Rattle.pcd_tally.specs.Reading.{blank, ReadSoFar, FedPromise, TookPromise, TurnPromise, TallyOf, isMore, AllPromise};
 use labelling::Tally;
@@ -46,7 +44,7 @@ fn complain(line: &[u8]) {
 fn report(t: Tally, read: u64)
     requires { ⌜ TallyOf read t ⌝ }
 {
-    if !text::show(STDOUT_FILENO, t) {
+    if !tally_text::show(STDOUT_FILENO, t) {
         complain(b"pcd_tally: standard output cannot be written\n");
     }
 }

@@ -13,9 +13,9 @@ use borrow.Author.Tests.{leb-true, leb-false}
 use Rattle.base.proofs.Lists.{sumBy-append}
 use Rattle.io.specs.Digits.{digits, Fewest}
 use Rattle.labelling.specs.declared.Tally.{Tally}
-use Rattle.pcd_tally.specs.declared.text.Text.{Text}
-use Rattle.pcd_tally.specs.Listing.{ascii, Count, counted, groupCounts, frameCounts, runCounts, Lines}
-use Rattle.pcd_tally.specs.Listing.{none, line, written, Adds, Lined, Room, ListingPromise}
+use Rattle.tally_text.specs.declared.Text.{Text}
+use Rattle.tally_text.specs.Listing.{ascii, Count, counted, groupCounts, frameCounts, runCounts, Lines}
+use Rattle.tally_text.specs.Listing.{none, line, written, Adds, Lined, Room, ListingPromise}
 
 pub adds-byte : (a : Text) (b : ℕ) → a .length < length (a .bytes)
     → Adds a (b ∷ []) (record { bytes = set (a .bytes) (a .length) b; length = a .length + 1 })

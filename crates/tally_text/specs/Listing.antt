@@ -11,7 +11,7 @@ use Rattle.io.specs.Digits.{digits, Fewest}
 use Rattle.labelling.specs.declared.Groups.{Groups}
 use Rattle.labelling.specs.declared.Tally.{Tally}
 use Rattle.labelling.specs.declared.Weak.{Weak}
-use Rattle.pcd_tally.specs.declared.text.Text.{Text}
+use Rattle.tally_text.specs.declared.Text.{Text}
 
 -- the bytes of an ASCII text
 abbrev pub ascii : String → List ℕ

@@ -1,9 +1,9 @@
--- `pcd_tally::text::with_byte` meets its contract: the byte stands after what was written. Assumes nothing.
+-- `tally_text::with_byte` meets its contract: the byte stands after what was written. Assumes nothing.
 use native.Mathlib.Omega.{arith}
 use borrow.Author.Needs.{needs}
-use Rattle.pcd_tally.proofs.TextLaws.{adds-byte}
-use Rattle.pcd_tally.proofs.text.with_byte.Statement.{statement}
-use Rattle.pcd_tally.proofs.text.with_byte.Tie as tie
+use Rattle.tally_text.proofs.TextLaws.{adds-byte}
+use Rattle.tally_text.proofs.with_byte.Statement.{statement}
+use Rattle.tally_text.proofs.with_byte.Tie as tie
 
 element-write-next : tie.Need-element-write-next
 element-write-next c = search needs

@@ -1,9 +1,9 @@
--- `pcd_tally::text::listing` meets its contract: the heading, and then the lines of the three layers, for which there is room. Assumes nothing.
+-- `tally_text::listing` meets its contract: the heading, and then the lines of the three layers, for which there is room. Assumes nothing.
 use mathlib.Core.Path.{refl}
 use borrow.Author.Needs.{needs}
-use Rattle.pcd_tally.proofs.TextLaws.{lined-append, whole-text}
-use Rattle.pcd_tally.proofs.text.listing.Statement.{statement}
-use Rattle.pcd_tally.proofs.text.listing.Tie as tie
+use Rattle.tally_text.proofs.TextLaws.{lined-append, whole-text}
+use Rattle.tally_text.proofs.listing.Statement.{statement}
+use Rattle.tally_text.proofs.listing.Tie as tie
 
 slice-aggregate-with : tie.Need-slice-aggregate-with
 slice-aggregate-with c = search needs

@@ -1,4 +1,4 @@
--- `pcd_tally::text::with_line` meets its contract: a name, the digits that `io::decimal` gives and a line feed are a line. Assumes nothing.
+-- `tally_text::with_line` meets its contract: a name, the digits that `io::decimal` gives and a line feed are a line. Assumes nothing.
 use mathlib.Core.Path.{_≡_}
 use mathlib.Core.List.{List}
 use Prim.Native.Nat.{ℕ, _≤_}
@@ -7,9 +7,9 @@ use lib.ListN.{length, take, length-append}
 use lib.Seq.{length-take-le}
 use denote.Ref.{now}
 use borrow.Author.Needs.{needs}
-use Rattle.pcd_tally.proofs.TextLaws.{adds-append, room-after, twenty, lined}
-use Rattle.pcd_tally.proofs.text.with_line.Statement.{statement}
-use Rattle.pcd_tally.proofs.text.with_line.Tie as tie
+use Rattle.tally_text.proofs.TextLaws.{adds-append, room-after, twenty, lined}
+use Rattle.tally_text.proofs.with_line.Statement.{statement}
+use Rattle.tally_text.proofs.with_line.Tie as tie
 
 decimal-requires : tie.Need-decimal-requires
 decimal-requires c κs = search needs

@@ -1,8 +1,8 @@
--- `pcd_tally::text::with_groups` meets its contract: the labels' lines, the weak copies' and the open group's. Assumes nothing.
+-- `tally_text::with_groups` meets its contract: the labels' lines, the weak copies' and the open group's. Assumes nothing.
 use borrow.Author.Needs.{needs}
-use Rattle.pcd_tally.proofs.TextLaws.{lined-append}
-use Rattle.pcd_tally.proofs.text.with_groups.Statement.{statement}
-use Rattle.pcd_tally.proofs.text.with_groups.Tie as tie
+use Rattle.tally_text.proofs.TextLaws.{lined-append}
+use Rattle.tally_text.proofs.with_groups.Statement.{statement}
+use Rattle.tally_text.proofs.with_groups.Tie as tie
 
 with-labels-requires : tie.Need-with-labels-requires
 with-labels-requires c κs = search needs

@@ -1,8 +1,8 @@
--- `pcd_tally::text::with_runs` meets its contract: one line after the other. Assumes nothing.
+-- `tally_text::with_weak` meets its contract: one line after the other. Assumes nothing.
 use borrow.Author.Needs.{needs}
-use Rattle.pcd_tally.proofs.TextLaws.{lined-append}
-use Rattle.pcd_tally.proofs.text.with_runs.Statement.{statement}
-use Rattle.pcd_tally.proofs.text.with_runs.Tie as tie
+use Rattle.tally_text.proofs.TextLaws.{lined-append}
+use Rattle.tally_text.proofs.with_weak.Statement.{statement}
+use Rattle.tally_text.proofs.with_weak.Tie as tie
 
 slice-aggregate-with-line : tie.Need-slice-aggregate-with-line
 slice-aggregate-with-line c = search needs
@@ -22,23 +22,15 @@ slice-aggregate-with-line-3 c = search needs
 with-line-requires-3 : tie.Need-with-line-requires-3
 with-line-requires-3 c κs = search needs
 
-slice-aggregate-with-line-4 : tie.Need-slice-aggregate-with-line-4
-slice-aggregate-with-line-4 c = search needs
-
-with-line-requires-4 : tie.Need-with-line-requires-4
-with-line-requires-4 c κs = search needs
-
 returns : tie.Need-returns
 returns c =
-    let third = c .before .before in
-    let second = third .before .before in
+    let second = c .before .before in
     let first = second .before .before in
     let to-second = lined-append (first .with-line .ensures) (second .with-line2 .ensures) in
-    let to-third = lined-append to-second (third .with-line3 .ensures) in
-    lined-append to-third (c .with-line4 .ensures)
+    lined-append to-second (c .with-line3 .ensures)
 
-pub with-runs-spec : {M : Type 1} → statement M
-with-runs-spec =
+pub with-weak-spec : {M : Type 1} → statement M
+with-weak-spec =
     tie.close
     (tie.spec
     slice-aggregate-with-line
@@ -47,6 +39,4 @@ with-runs-spec =
     with-line-requires-2
     slice-aggregate-with-line-3
     with-line-requires-3
-    slice-aggregate-with-line-4
-    with-line-requires-4
     returns)
