@@ -3,8 +3,8 @@ ghost use mathlib.Core.Path.{_≡_};
 ghost use mathlib.Core.Bool.{false};
 ghost use Prim.Native.Nat.{_+_, _≤_, _<_};
 ghost use Rattle.reel_reading.specs.Reading.{isComplete, Keeps};
-use crate::Event;
 use crate::Advanced;
+use crate::Event;
 use crate::Reel;
 use libc::STDIN_FILENO;
 

@@ -63,7 +63,7 @@ pub struct Advanced {
 
 // A reel of which nothing is read, in the files that the arguments from this one on name.
 pub fn begin(strict: bool, file: usize) -> Reel
-    ensures { λ r. ⌜ Stands r blank ⌝ }
+    ensures { λ r. ⌜ Stands r blank × (r .frames ≡ 0) ⌝ }
 {
     let begun = reader::fresh(RULE);
     let tally = begun.tally;
