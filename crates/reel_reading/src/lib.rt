@@ -8,12 +8,12 @@ ghost use mathlib.Core.List.{List};
 ghost use Prim.Native.Nat.{ℕ, _+_, _^_, _≤_, _<_};
 ghost use lib.ListN.{length};
 ghost use Rattle.base.specs.Lists.{one};
-ghost use Rattle.feeding.specs.Relock.{beginning};
+ghost use Rattle.relocking.specs.Relock.{beginning};
 ghost use Rattle.reel_reading.specs.Reading.{StepPromise, SteppedPromise, Stands, isComplete, AdvancePromise, Keeps, blank};
 use base::refusal::TOO_MANY_BYTES;
-use feeding::relock::Feeder;
-use feeding::relock::Relocked;
-use feeding::relock::relock;
+use relocking::Feeder;
+use relocking::Relocked;
+use relocking::relock;
 use order::LIMIT;
 
 // The program keeps the vote by bytes.
