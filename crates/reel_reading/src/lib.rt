@@ -11,10 +11,10 @@ ghost use Rattle.base.specs.Lists.{one};
 ghost use Rattle.relocking.specs.Relock.{beginning};
 ghost use Rattle.reel_reading.specs.Reading.{StepPromise, SteppedPromise, Stands, isComplete, AdvancePromise, Keeps, blank};
 use base::refusal::TOO_MANY_BYTES;
+use order::LIMIT;
 use relocking::Feeder;
 use relocking::Relocked;
 use relocking::relock;
-use order::LIMIT;
 
 // The program keeps the vote by bytes.
 const RULE: u64 = 1;
