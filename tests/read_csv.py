@@ -4,12 +4,14 @@
 Run from the repository's root: python3 tests/read_csv.py FRAMES BOOK ITEMS ORBIT
 Ends with status 1 where something differs. Of each file: the header, fields in every row, a value or a refusal in each. Of the items: every frame, its
 items in order and without a gap over the 128 places of word 72, and the instants of the frames of kind 0. Of the records: each cycle of the book,
-and the instant that its clock begins with."""
+and the earliest instant of its records, that of its first major frame, two major frames of 4.096 s before its time code (docs/orbit.md)."""
 import csv
 import struct
 import sys
 
 MAJOR, PLACES, HEADER, ENTRY = 16384, 128, 4, 12
+# Sixteenths of a millisecond.
+MAJOR_TIME = 4096 * 16
 
 
 def rows(path):
@@ -48,12 +50,13 @@ def main():
     cycles = struct.unpack(">H", data[:2])[0]
     instants = [struct.unpack(">Q", data[HEADER + ENTRY * i:HEADER + ENTRY * i + 8])[0] for i in range(cycles)]
     assert set(instants) <= set(items(items_csv, count))
-    begun = {}
-    for row in rows(orbit_csv):
+    table = rows(orbit_csv)
+    for row in table:
         value_or_refusal(row)
-        begun.setdefault(int(row["cycle"]), int(row["instant"]))
-        begun[int(row["cycle"])] = min(begun[int(row["cycle"])], int(row["instant"]))
-    assert [begun[k] for k in sorted(begun)] == instants, (begun, instants)
+    assert {int(row["cycle"]) for row in table} == set(range(cycles)), "other cycles"
+    for k, instant in enumerate(instants):
+        earliest = min(int(row["instant"]) for row in table if int(row["cycle"]) == k and row["instant"])
+        assert earliest == instant - 2 * MAJOR_TIME, (k, earliest)
 
 
 if __name__ == "__main__":

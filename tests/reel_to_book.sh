@@ -39,7 +39,8 @@ said 'items and records, read as CSV' 0 $?
 
 bin/pcd-book --year 2003 <"$work/found" >"$work/book" 2>"$work/words"
 same 'book' "$work/kept" "$work/book"
-said 'book: frames left out' 6 "$(grep -c 'frame' "$work/words")"
+left=$(sed -n 's/.*frames [0-9]* and \([0-9]*\) after it: in no cycle/\1+1/p; s/.*frame [0-9]*: in no cycle/1/p' "$work/words" | paste -sd+)
+said 'book: frames in no cycle' 6 $((left))
 said 'check' "$work/book: yes" "$(bin/pcd-book-check "$work/book")"
 said 'compare' "$(printf 'instant %s: only in the second\n' 170320004385 276480262144)" "$(bin/pcd-book-compare "$work/book" "$work/truth")"
 while read -r instant found; do

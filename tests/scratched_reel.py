@@ -10,7 +10,7 @@ It writes below the folder
     asked      a line for each cycle of the truth: its instant, and the place and the instant of the last cycle kept at or before it
 
 The damage: a head that drops the second copy in one group of three, other bad copies, noise between two cycles, a word of the third cycle that all
-three copies give differently, and a byte of the fifth that is lost. So one major frame of each of these two cycles is lost, and no other."""
+three copies give differently, and a word of the fifth that is lost. So one major frame of each of these two cycles is lost, and no other."""
 import os
 import random
 import struct
@@ -25,7 +25,7 @@ from reader_vectors import HOLE, group
 YEAR = 2003
 TIMES = [(123, 4, 56, 7, 890, 15)] + [(123, 4, 56, 24 + 16 * k, 274, k) for k in range(2)] + [(200, 0, 0, 16 * k, 384 * k % 1000, 0) for k in range(3)]
 MINOR, MAJOR, FRAMES = 128, 16384, 4
-# The cycles that lose a major frame, and which: a word that no two copies agree on, and a lost byte.
+# The cycles that lose a major frame, and which: a word that no two copies agree on, and a lost word.
 ERASED, SLIPPED = (2, 1), (4, 3)
 
 
@@ -59,8 +59,9 @@ def reel(bodies, rng):
             words = list(body[k * MAJOR:(k + 1) * MAJOR])
             if (i, k) == ERASED:
                 words[60 * MINOR + 99] = HOLE
-            data = b"".join(groups(words, rng))
-            yield data[:len(data) // 2] + data[len(data) // 2 + ((i, k) == SLIPPED):]
+            if (i, k) == SLIPPED:
+                del words[77 * MINOR + 40]
+            yield from groups(words, rng)
         if i == 0:
             yield bytes(b for b in rng.randbytes(5000) if b != SYNC)
 
