@@ -86,7 +86,7 @@ def frame_lines(frame, area):
 
 # ---- Frames: a whole cycle of good values, a cycle of refused ones, a frame of no kind; and three bytes behind the last frame
 
-def timed(area, rng):
+def timed(area):
     """A frame of kind 0 whose other items are refused keeps a good time, or it would have no kind."""
     area = bytearray(area)
     for place, byte in enumerate(bytes.fromhex("73662359599999")):
@@ -98,7 +98,7 @@ def frames():
     rng = random.Random(27)
     cycle = [area_of(rng, column_of(rng, kind, good)) for kind in range(4)]
     refused = [area_of(rng, column_of(rng, kind, bad)) for kind in range(4)]
-    refused[0] = timed(refused[0], rng)
+    refused[0] = timed(refused[0])
     return cycle + refused + [bytes(16384)]
 
 
