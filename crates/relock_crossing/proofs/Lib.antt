@@ -1,1 +1,2 @@
 pub mod RelockCrossed
+pub mod Steps

@@ -1,27 +1,31 @@
--- What a step that locks on a frame's own sync promises, said of what crosses. Assumes nothing.
+-- What a step in place promises, said of what crosses; and its calls, as those of `relocking`. Assumes nothing.
 use mathlib.Core.Path.{_≡_, refl, sym, ap, _∙_}
-use mathlib.Core.Bool.{Bool, true, false, _&&_}
+use mathlib.Core.Bool.{Bool, true, false, not, _&&_, _||_, true≢false}
 use mathlib.Core.List.{List, [], _∷_}
-use Prim.Native.Nat.{ℕ, zero, suc}
-use lib.Dec.{ltb}
-use lib.ListN.{getD}
+use Prim.Native.Nat.{ℕ, _+_, _/_, _^_, _≤_}
 use native.Mathlib.Omega.{arith}
-use borrow.Author.Tests.{ne-eqb}
+use lib.Dec.{eqb, ltb}
+use lib.ListN.{length, getD}
+use borrow.Author.Tests.{eqb-true, eqb-false, ne-eqb}
+use Rattle.base.specs.Format.{majorFrame}
 use Rattle.base.specs.Lists.{one}
+use Rattle.labelling.specs.declared.Tally.{Tally}
+use Rattle.labelling.specs.Order.{inOrder}
+use Rattle.labelling.specs.Calls.{TakeCall, takeRefusal, answer}
+use Rattle.labelling.proofs.CallLaws.{not-in-order, wrong-area, no-refusal}
+use Rattle.own_sync.specs.Locks.{toLock}
+use Rattle.own_sync.specs.Relocking.{locked}
 use Rattle.relocking.specs.declared.Feeder.{Feeder}
 use Rattle.relocking.specs.declared.Relocked.{Relocked}
-use Rattle.relocking.specs.Relock.{Move, move, moved, areaMoved, RelockPromise}
-use Rattle.tally_numbers.specs.Numbers.{isTally, numbersOf}
-use Rattle.relock_crossing.specs.Relocking.{isFeeder, LentFeeder, lentFeeder, feederIn, relockRefused, stepWritten, relockLeaves, RelockCrossed}
-
--- a feeder's numbers are a tally's
-both-left : (a b : Bool) → (a && b) ≡ true → a ≡ true
-both-left true b e = refl
-both-left false b e = e
-
-pub feeder-tally : (n feeder : List ℕ) → isFeeder n feeder ≡ true → isTally n ≡ true
-unfolding isFeeder
-feeder-tally n feeder e = both-left (isTally n) (ltb (getD feeder 0 0) 2) e
+use Rattle.relocking.specs.Relock.{Move, move, moved, areaMoved, feederInOrder, relockRefusal, ReadsOn, RelockPromise}
+use Rattle.relocking.proofs.Relocking.{not-in-order as feeder-not-in-order, wrong-area as step-wrong-area, accepted-by, order-of, locked-so, called-so}
+use Rattle.relocking.proofs.Moves.{reads-all}
+use Rattle.tally_numbers.specs.Numbers.{isTally, tallyOf, numbersOf}
+use Rattle.in_place.specs.declared.Locked.{Locked}
+use Rattle.in_place.specs.Places.{callIn, lockedOf, LockedInPlace}
+use Rattle.relock_crossing.specs.declared.Step.{Step}
+use Rattle.relock_crossing.specs.Relocking.{isFeeder, feederOf, LentFeeder, lentFeeder, feederIn, refusedBy, relockRefused, stepWritten, relockLeaves}
+use Rattle.relock_crossing.specs.Relocking.{RelockCrossed, stepOf, relockedOf, Moves, StepCrossed}
 
 module _ (l : LentFeeder) (piece : List ℕ) (ends : Bool) where
   abbrev f : Feeder
@@ -39,40 +43,58 @@ module _ (l : LentFeeder) (piece : List ℕ) (ends : Bool) where
   unfolding relockLeaves
   step-as-lent h = rw (ne-eqb (relockRefused l piece) 0 h)
 
-  pub no-feeder : isFeeder (l .numbers) (l .feeder) ≡ false → RelockCrossed l piece ends 1 l
-  unfolding relockRefused
-  no-feeder e = record { refusal-is = rw e; left-is = step-as-lent (rw e (λ z. omega arith)) }
-
-  -- the step of the feeder that the numbers are
-  module _ (e : isFeeder (l .numbers) (l .feeder) ≡ true) (g : Feeder) (is-g : g ≡ feederIn l) (r : Relocked) (area : List ℕ)
-      (p : RelockPromise g piece ends (l .area) r area) where
-    step-promised : RelockPromise f piece ends (l .area) r area
-    step-promised = rw is-g at p
-
-    step-refusal : r .refusal ≡ relockRefused l piece
+  -- the step in place
+  module _ (s : Step) (numbers frame area : List ℕ)
+      (p : StepCrossed (l .numbers) (l .frame) (l .feeder) piece ends (l .area) s numbers frame area) where
+    step-refusal : s .refusal ≡ relockRefused l piece
     unfolding relockRefused
-    step-refusal = rw e (step-promised .refusal-is)
+    step-refusal = p .refusal-is
 
-    -- accepted: what is written is the answer's
-    pub step-accepted : (numbers frame : List ℕ) (awaits complete more : ℕ) → numbers ≡ numbersOf (r .feeder .tally) → frame ≡ r .feeder .tally .frame
-        → awaits ≡ one (r .feeder .awaits) → complete ≡ one (r .complete) → more ≡ one (r .more) → r .refusal ≡ 0
-        → RelockCrossed l piece ends 0 (lentFeeder numbers frame (awaits ∷ r .feeder .handed ∷ []) area (r .taken ∷ complete ∷ more ∷ []))
-    step-accepted numbers frame awaits complete more n k w c o z = record {
-      refusal-is = sym z ∙ step-refusal;
-      left-is =
-          rw (n, k, w, c, o)
-          (ap (λ (x : Relocked). stepWritten x area) (step-promised .answer-is z)
-          ∙ ap (λ (x : List ℕ). stepWritten (moved m f piece (l .area)) x) (step-promised .area-is z) ∙ step-written (sym step-refusal ∙ z));
-    }
+    pub step-accepted : (awaits complete more : ℕ) → awaits ≡ one (s .awaits) → complete ≡ one (s .complete) → more ≡ one (s .more) → s .refusal ≡ 0
+        → RelockCrossed l piece ends 0 (lentFeeder numbers frame (awaits ∷ s .handed ∷ []) area (s .taken ∷ complete ∷ more ∷ []))
+    step-accepted awaits complete more w c o z =
+        let moves = p .accepted z in
+        let q = moves .promised in
+        record {
+          refusal-is = sym z ∙ step-refusal;
+          left-is =
+              rw (w, c, o, moves .holds .numbers-is, moves .holds .frame-is)
+              (ap (λ (x : Relocked). stepWritten x area) (q .answer-is refl)
+              ∙ ap (λ (x : List ℕ). stepWritten (moved m f piece (l .area)) x) (q .area-is refl) ∙ step-written (sym step-refusal ∙ z));
+        }
 
-    -- the area of a refused step
-    kept : (n : ℕ) → r .refusal ≡ n → (n ≡ 0 → ⊥) → area ≡ l .area
-    kept zero q h = absurd (h refl)
-    kept (suc n) q h = step-promised .refused n q .1
+    pub step-refused : (s .refusal ≡ 0 → ⊥) → RelockCrossed l piece ends (s .refusal) (lentFeeder numbers frame (l .feeder) area (l .answer))
+    step-refused h =
+        let kept = p .refused h in
+        record { refusal-is = step-refusal; left-is = rw (kept .0, kept .1, kept .2) (step-as-lent (λ z. h (step-refusal ∙ z))) }
 
-    pub step-refused : (r .refusal ≡ 0 → ⊥)
-        → RelockCrossed l piece ends (r .refusal) (lentFeeder (l .numbers) (l .frame) (l .feeder) area (l .answer))
-    step-refused h = record {
-      refusal-is = step-refusal;
-      left-is = rw (kept (r .refusal) refl h) (step-as-lent (λ z. h (step-refusal ∙ z)));
-    }
+-- ---- a call of an accepted step
+
+module _ (n frame old part : List ℕ) (awaits : Bool) (handed : ℕ) where
+  abbrev c : TakeCall
+  c = callIn n frame part old
+
+  abbrev before : Feeder
+  before = record { tally = tallyOf n frame; awaits = awaits; handed = handed }
+
+  module _ (e : takeRefusal c ≡ 0) (t : isTally n ≡ true) (r : Locked) (numbers left new : List ℕ) (q : LockedInPlace c n r numbers left new) where
+    no-refusal-so : r .part .refusal ≡ 0
+    no-refusal-so = q .in-place .refusal-is t ∙ e
+
+    pub reads-so : (waits : Bool) → ReadsOn before part waits old (relockedOf (stepOf r waits handed) (answer (toLock c) .tally)) new
+    reads-so waits =
+        let p = q .promised no-refusal-so in
+        called-so c e (lockedOf c r) new p (waits || r .locked) (waits || locked c) handed
+        (ap (λ (x : Bool). waits || x) (locked-so c e (lockedOf c r) new p))
+
+    pub moves-so : (waits : Bool) (piece : List ℕ) (ends : Bool)
+        → RelockPromise before piece ends old (relockedOf (stepOf r waits handed) (answer (toLock c) .tally)) new
+        → Moves before piece ends old (stepOf r waits handed) numbers left new
+    moves-so waits piece ends p =
+        let kept = q .in-place .accepted no-refusal-so in
+        record {
+          tally = answer (toLock c) .tally;
+          holds = record { numbers-is = kept .numbers-is; frame-is = kept .frame-is };
+          no-refusal = no-refusal-so;
+          promised = p;
+        }

@@ -1,12 +1,22 @@
 // A step that locks on a frame's own sync, on the numbers that the caller lends: beside the tally's there are two of the feeder's, whether a lock
-// awaits its word, 1 or 0, and how many lead-ins were handed.
+// awaits its word, 1 or 0, and how many lead-ins were handed. It is `relocking::relock` in place.
 ghost use mathlib.Core.Path.{_≡_};
-ghost use mathlib.Core.Bool.{true, not};
+ghost use mathlib.Core.Bool.{true, not, _&&_};
 ghost use lib.Dec.{eqb};
-ghost use Rattle.relock_crossing.specs.Relocking.{isFeeder, feederOf, lentFeeder, RelockCrossed};
+ghost use lib.ListN.{length};
+ghost use Rattle.tally_numbers.specs.Numbers.{isTally};
+ghost use Rattle.relocking.specs.Relock.{feederInOrder, relockRefusal, beforeGroup};
+ghost use Rattle.relock_crossing.specs.Relocking.{isFeeder, feederOf, awaiting, refusedBy, stepOf, refusedStep, Fits, Moves, StepCrossed, Asks, Leads};
+ghost use Rattle.relock_crossing.specs.Relocking.{lentFeeder, RelockCrossed};
+use base::format::MAJOR_FRAME;
 use base::refusal::NOT_IN_ORDER;
-use relocking::Feeder;
+use base::refusal::TOO_MANY_BYTES;
+use base::refusal::WRONG_LENGTH;
+use in_place::Locked;
+use order::LIMIT;
+use relocking::LEAD_IN;
 use tally_numbers::NUMBERS;
+use tally_numbers::flag;
 
 // One step on a piece of the reel; `ends` is 0 where more bytes may follow the piece. Returns the number of the refusal, 0 for none; a refusal writes
 // nothing. `answer` gets the bytes taken, then 1 where a major frame is complete, then 1 where the bytes left are asked for again with more behind
@@ -25,40 +35,219 @@ pub fn relock(
         (now (piece .entry)) (not (eqb ends 0)) r
         (lentFeeder (now (numbers .exit)) (now (frame .exit)) (now (feeder .exit)) (now (area .exit)) (now (answer .exit))) ⌝ }
 {
-    if !is_feeder(&*numbers, &*feeder) {
-        return NOT_IN_ORDER;
+    let s = stepped(numbers, frame, &*feeder, piece, ends != 0, area);
+    if s.refusal != 0 {
+        return s.refusal;
     }
-    let f = feeder_of(&*numbers, &*frame, &*feeder);
-    let r = relocking::relock(f, piece, ends != 0, area);
-    if r.refusal != 0 {
-        return r.refusal;
-    }
-    let next = r.feeder;
-    let left = next.tally;
-    tally_numbers::put_tally(left, numbers, frame);
-    let awaits = tally_numbers::flag(next.awaits);
-    let complete = tally_numbers::flag(r.complete);
-    let more = tally_numbers::flag(r.more);
-    *feeder = [awaits, next.handed];
-    *answer = [r.taken as u64, complete, more];
+    let awaits = flag(s.awaits);
+    let complete = flag(s.complete);
+    let more = flag(s.more);
+    *feeder = [awaits, s.handed];
+    *answer = [s.taken as u64, complete, more];
     0
 }
 
-// Whether these are the numbers of a feeder: a tally's, and a flag that is 0 or 1.
-fn is_feeder(n: &[u64; NUMBERS], feeder: &[u64; 2]) -> bool
-    ensures { λ r. ⌜ r ≡ isFeeder (now (n .entry)) (now (feeder .entry)) ⌝ }
-{
-    tally_numbers::is_tally(n) & (feeder[0] < 2)
+// What a step answers, and the feeder's two after it.
+pub(crate) struct Step {
+    pub(crate) refusal: u8,
+    pub(crate) taken: usize,
+    pub(crate) complete: bool,
+    pub(crate) more: bool,
+    pub(crate) awaits: bool,
+    pub(crate) handed: u64,
 }
 
-fn feeder_of(n: &[u64; NUMBERS], frame: &[u8; 128], feeder: &[u64; 2]) -> Feeder
-    requires { ⌜ isFeeder (now n) (now feeder) ≡ true ⌝ }
-    ensures { λ r. ⌜ r ≡ feederOf (now (n .entry)) (now (frame .entry)) (now (feeder .entry)) ⌝ }
+// Where no lock awaits its word, the one call tests the order. Everything else is rare, and tests it beforehand too.
+fn stepped(
+    numbers: &mut [u64; NUMBERS],
+    frame: &mut [u8; 128],
+    feeder: &[u64; 2],
+    piece: &[u8],
+    ends: bool,
+    area: &mut [u8],
+) -> Step
+    ensures { λ r. ⌜ StepCrossed (now (numbers .entry)) (now (frame .entry)) (now (feeder .entry)) (now (piece .entry)) ends (now (area .entry)) r
+        (now (numbers .exit)) (now (frame .exit)) (now (area .exit)) ⌝ }
 {
-    let t = tally_numbers::tally_of(n, frame);
-    Feeder {
-        tally: t,
-        awaits: feeder[0] == 1,
-        handed: feeder[1],
+    let handed = feeder[1];
+    let awaits = feeder[0];
+    if (awaits == 0) & fits(numbers[0], handed, piece.len()) {
+        let r = in_place::take_to_lock(numbers, frame, piece, area);
+        return read(r, false, handed);
     }
+    let number = refusal(&*numbers, &*frame, feeder, piece.len(), area.len());
+    if number != 0 {
+        return refused(number);
+    }
+    at_lock(numbers, frame, handed, piece, ends, area)
+}
+
+// Whether the tally's bytes have room for the lead-ins that were handed, and whether a lead-in still fits after the piece.
+fn fits(bytes: u64, handed: u64, piece: usize) -> bool
+    ensures { λ r. ⌜ Fits bytes handed piece r ⌝ }
+{
+    if bytes / LEAD_IN < handed {
+        return false;
+    }
+    if LIMIT - LEAD_IN < bytes {
+        return false;
+    }
+    if LIMIT - LEAD_IN - bytes < piece as u64 {
+        return false;
+    }
+    true
+}
+
+// The number of the refusal, 0 for none.
+fn refusal(
+    n: &[u64; NUMBERS],
+    frame: &[u8; 128],
+    feeder: &[u64; 2],
+    piece: usize,
+    area: usize,
+) -> u8
+    ensures { λ r. ⌜ r ≡ refusedBy (now (n .entry)) (now (frame .entry)) (now (feeder .entry)) piece area ⌝ }
+{
+    if !in_order(n, frame, feeder) {
+        return NOT_IN_ORDER;
+    }
+    if area != MAJOR_FRAME {
+        return WRONG_LENGTH;
+    }
+    let left = LIMIT - n[0];
+    if left < LEAD_IN {
+        return TOO_MANY_BYTES;
+    }
+    if left - LEAD_IN < piece as u64 {
+        return TOO_MANY_BYTES;
+    }
+    0
+}
+
+// Whether these are the numbers of a feeder in order.
+fn in_order(n: &[u64; NUMBERS], frame: &[u8; 128], feeder: &[u64; 2]) -> bool
+    ensures { λ r. ⌜ r ≡ (isFeeder (now (n .entry)) (now (feeder .entry)) && feederInOrder (feederOf (now (n .entry)) (now (frame .entry)) (now (feeder .entry)))) ⌝ }
+{
+    let at_lock = (n[13] != 1) & (n[12] == 0) & (n[5] == 0);
+    in_place::in_order(n, frame)
+        & (feeder[0] < 2)
+        & ((feeder[0] != 1) | at_lock)
+        & (feeder[1] <= n[0] / LEAD_IN)
+}
+
+fn refused(number: u8) -> Step
+    ensures { λ r. ⌜ r ≡ refusedStep number ⌝ }
+{
+    Step {
+        refusal: number,
+        taken: 0,
+        complete: false,
+        more: false,
+        awaits: false,
+        handed: 0,
+    }
+}
+
+// A call as far as a lock, as a step. `waits` says that the lock before it goes on waiting.
+fn read(r: Locked, waits: bool, handed: u64) -> Step
+    ensures { λ s. ⌜ s ≡ stepOf r waits handed ⌝ }
+{
+    let part = r.part;
+    Step {
+        refusal: part.refusal,
+        taken: part.taken,
+        complete: part.complete,
+        more: false,
+        awaits: waits | r.locked,
+        handed: handed,
+    }
+}
+
+// A lock awaits its word: what stands before the next group comes first.
+fn at_lock(
+    numbers: &mut [u64; NUMBERS],
+    frame: &mut [u8; 128],
+    handed: u64,
+    piece: &[u8],
+    ends: bool,
+    area: &mut [u8],
+) -> Step
+    requires { ⌜ (isTally (now numbers) ≡ true) × (relockRefusal (awaiting (now numbers) (now frame) handed) (length (now piece)) (length (now area)) ≡ 0) ⌝ }
+    ensures { λ r. ⌜ Moves (awaiting (now (numbers .entry)) (now (frame .entry)) handed) (now (piece .entry)) ends (now (area .entry)) r
+        (now (numbers .exit)) (now (frame .exit)) (now (area .exit)) ⌝ }
+{
+    let k = relocking::before_group(piece);
+    if 0 < k {
+        let r = in_place::take_to_lock(numbers, frame, &piece[..k], area);
+        return read(r, true, handed);
+    }
+    decide(numbers, frame, handed, piece, ends, area)
+}
+
+// A lock awaits its word, and the piece is empty or begins with the SYNC of that word's group.
+fn decide(
+    numbers: &mut [u64; NUMBERS],
+    frame: &mut [u8; 128],
+    handed: u64,
+    piece: &[u8],
+    ends: bool,
+    area: &mut [u8],
+) -> Step
+    requires { ⌜ (isTally (now numbers) ≡ true) × (relockRefusal (awaiting (now numbers) (now frame) handed) (length (now piece)) (length (now area)) ≡ 0) ⌝ }
+    requires { ⌜ beforeGroup (now piece) ≡ 0 ⌝ }
+    ensures { λ r. ⌜ Moves (awaiting (now (numbers .entry)) (now (frame .entry)) handed) (now (piece .entry)) ends (now (area .entry)) r
+        (now (numbers .exit)) (now (frame .exit)) (now (area .exit)) ⌝ }
+{
+    if piece.len() < 4 {
+        if ends | (piece.len() == 0) {
+            let r = in_place::take_to_lock(numbers, frame, piece, area);
+            return read(r, true, handed);
+        }
+        return asks(numbers, frame, handed);
+    }
+    if relocking::begins_frame(numbers[32], piece[1], piece[2], piece[3]) {
+        let r = in_place::take_to_lock(numbers, frame, piece, area);
+        return read(r, false, handed);
+    }
+    lead_in(numbers, frame, handed, piece, area)
+}
+
+// The word that decides is not whole: nothing is taken, and the numbers are written as they were read.
+fn asks(numbers: &mut [u64; NUMBERS], frame: &mut [u8; 128], handed: u64) -> Step
+    requires { ⌜ isTally (now numbers) ≡ true ⌝ }
+    ensures { λ r. ⌜ Asks (now (numbers .entry)) (now (frame .entry)) handed r (now (numbers .exit)) (now (frame .exit)) ⌝ }
+{
+    let t = tally_numbers::tally_of(&*numbers, &*frame);
+    tally_numbers::put_tally(t, numbers, frame);
+    Step {
+        refusal: 0,
+        taken: 0,
+        complete: false,
+        more: true,
+        awaits: true,
+        handed: handed,
+    }
+}
+
+// The lead-in, and then a call on the piece.
+fn lead_in(
+    numbers: &mut [u64; NUMBERS],
+    frame: &mut [u8; 128],
+    handed: u64,
+    piece: &[u8],
+    area: &mut [u8],
+) -> Step
+    requires { ⌜ (isTally (now numbers) ≡ true) × (relockRefusal (awaiting (now numbers) (now frame) handed) (length (now piece)) (length (now area)) ≡ 0) ⌝ }
+    ensures { λ r. ⌜ Leads (awaiting (now (numbers .entry)) (now (frame .entry)) handed) (now (piece .entry)) (now (area .entry)) r
+        (now (numbers .exit)) (now (frame .exit)) (now (area .exit)) ⌝ }
+{
+    let lead = in_place::take_part(
+        numbers,
+        frame,
+        b"\x16\xfa\xfa\xfa\x16\xf3\xf3\xf3\x16\x20\x20\x20",
+        false,
+        area,
+    );
+    let r = in_place::take_to_lock(numbers, frame, piece, area);
+    read(r, false, handed + 1)
 }
