@@ -125,7 +125,7 @@ fn accepted(
 {
     let rule = numbers[RULE];
     let layers = layers_of(&*numbers);
-    let r = reader::run::run(rule, stop, layers, piece, frame, area);
+    let r = reader_run::run(rule, stop, layers, piece, frame, area);
     let left = r.layers;
     put_layers(left, r.complete, numbers);
     Part {

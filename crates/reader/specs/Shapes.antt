@@ -11,16 +11,11 @@ use Rattle.labelling.specs.declared.Tally.{Tally}
 use Rattle.labelling.specs.Votes.{ruleVote}
 use Rattle.labelling.specs.Machine.{stateOf}
 use Rattle.labelling.specs.Order.{inOrder}
-use Rattle.labelling.specs.Calls.{TakeCall, takeRefusal, Answer, Progress, answer, DutyCall, dutyRefusal, dutyAnswer}
+use Rattle.labelling.specs.Calls.{TakeCall, takeRefusal, Answer, answer, DutyCall, dutyRefusal, dutyAnswer}
 use Rattle.own_sync.specs.Locks.{locks, upTo, toLock}
-use Rattle.plain_steps.specs.Shapes.{stateWith}
 use Rattle.reader.specs.declared.duty.DutyChanged.{DutyChanged}
 use Rattle.reader.specs.declared.Locked.{Locked}
-use Rattle.reader.specs.declared.run.Ran.{Ran}
 use Rattle.reader.specs.declared.Taken.{Taken}
-
-abbrev pub ranOf : Ran → List ℕ → List ℕ → Progress
-ranOf r frame area = record { state = stateWith (r .layers) frame; area = area; taken = r .at; complete = r .complete }
 
 -- ---- a call that takes bytes
 

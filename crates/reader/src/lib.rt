@@ -1,8 +1,6 @@
 // Reads an unpacked PCD stream in pieces: voted words, minor frames, major frames, and a tally of every byte (paper 01, "From bytes to
 // words" to "The tally and one call"; paper 02, requests 5 and 6). The claim about every list of calls is the contract of `fresh`.
 mod duty;
-pub mod run;
-mod stretch;
 
 ghost use mathlib.Core.Path.{_≡_};
 ghost use mathlib.Core.Bool.{true};
@@ -192,7 +190,7 @@ fn accepted(t: Tally, piece: &[u8], stop: bool, area: &mut [u8]) -> Taken
         framing: framing,
         runs: runs,
     };
-    let r = run::run(t.rule, stop, layers, piece, &mut frame, area);
+    let r = reader_run::run(t.rule, stop, layers, piece, &mut frame, area);
     let left = r.layers;
     let operators = duty::booked(t.operators, r.complete);
     let tally = together(left, operators, t.rule, frame);

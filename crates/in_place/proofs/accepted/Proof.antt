@@ -7,7 +7,8 @@ use Rattle.labelling.proofs.CallLaws.{accepted-answer}
 use Rattle.labelling.proofs.Ordered.{state-in-order}
 use Rattle.labelling.specs.Calls.{Progress, Answer, answer, answerWith}
 use Rattle.order.proofs.Rooms.{duty-room}
-use Rattle.reader.specs.Shapes.{partOf, ranOf}
+use Rattle.reader.specs.Shapes.{partOf}
+use Rattle.reader_run.specs.Onward.{ranOf}
 use Rattle.reader.proofs.Answers.{part-fits}
 use Rattle.tally_numbers.specs.Numbers.{tallyOf, numbersOf, Sized}
 use Rattle.in_place.specs.Places.{callIn}

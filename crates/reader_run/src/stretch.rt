@@ -1,0 +1,289 @@
+// Stretches of a piece, taken many bytes at a time: what the crates nominal, voted and quiet find is added to the counts at once. It is what plain steps
+// would have done.
+ghost use mathlib.Core.Path.{_≡_};
+ghost use mathlib.Core.Bool.{true, false};
+ghost use mathlib.Core.List.{List};
+ghost use Prim.Native.Nat.{ℕ, _*_, _-_, _≤_, _<_, _^_};
+ghost use lib.ListN.{getD};
+ghost use Rattle.nominal.specs.Effect.{withWords, withQuiet};
+ghost use Rattle.order.specs.Room.{GroupsRoom, FramingRoom};
+ghost use Rattle.plain_steps.specs.Shapes.{stateWith};
+ghost use Rattle.reader_run.specs.Onward.{Fits, Begun, Reaches, ReachesAnyFrame, Words, VotedGroups, WeakRoom, bothWeak, opened as openedWith};
+ghost use Rattle.voted.specs.Copies.{Copies};
+ghost use Rattle.voted.specs.Effect.{withVoted};
+use labelling::Groups;
+use labelling::Weak;
+use plain_steps::Layers;
+
+// The last place of a frame is left to the plain step.
+const LAST_PLACE: u64 = 127;
+
+// How far a stretch leads. Nothing is complete there.
+pub(crate) struct Reached {
+    pub(crate) layers: Layers,
+    pub(crate) at: usize,
+}
+
+// n bytes more: FILL, and a group for each of w words, of which x is the last.
+fn after_words(g: Groups, n: u64, w: u64, x: u8) -> Groups
+    requires { ⌜ GroupsRoom g × (n ≤ 2 ^ 40) × (4 * w ≤ n) ⌝ }
+    ensures { λ r. ⌜ ((ws : List ℕ) → Words ws w x → r ≡ withWords g n ws) ⌝ }
+{
+    let mut next = g;
+    next.bytes += n;
+    next.fill += n - 4 * w;
+    next.voted += w;
+    if w == 0 {
+        return next;
+    }
+    next.first = x;
+    next.second = x;
+    next
+}
+
+fn more_weak(w: Weak, more: Weak) -> Weak
+    requires { ⌜ WeakRoom w × WeakRoom more ⌝ }
+    ensures { λ r. ⌜ r ≡ bothWeak w more ⌝ }
+{
+    Weak {
+        first: w.first + more.first,
+        second: w.second + more.second,
+        third: w.third + more.third,
+    }
+}
+
+// n bytes more: FILL, and w voted groups with these weak copies; x and y are the first copies of the last of them.
+fn after_voted(g: Groups, n: u64, w: u64, weak: Weak, x: u8, y: u8) -> Groups
+    requires { ⌜ GroupsRoom g × (n ≤ 2 ^ 40) × (4 * w ≤ n) × WeakRoom weak ⌝ }
+    ensures { λ r. ⌜ ((gs : List Copies) → VotedGroups gs w weak x y → r ≡ withVoted g n gs) ⌝ }
+{
+    let mut next = g;
+    next.bytes += n;
+    next.fill += n - 4 * w;
+    next.voted += w;
+    if w == 0 {
+        return next;
+    }
+    next.weak = more_weak(g.weak, weak);
+    next.first = x;
+    next.second = y;
+    next
+}
+
+// n bytes more, none of them SYNC, and k of them stray.
+fn after_quiet(g: Groups, n: u64, k: u64) -> Groups
+    requires { ⌜ GroupsRoom g × (n ≤ 2 ^ 40) × (k ≤ n) ⌝ }
+    ensures { λ r. ⌜ r ≡ withQuiet g n k ⌝ }
+{
+    let mut next = g;
+    next.bytes += n;
+    next.fill += n - k;
+    next.stray += k;
+    next
+}
+
+// SYNC and two copies more.
+fn opened(g: Groups, x: u8, y: u8) -> Groups
+    requires { ⌜ g .bytes ≤ 2 ^ 40 ⌝ }
+    ensures { λ r. ⌜ r ≡ openedWith g x y ⌝ }
+{
+    let mut next = g;
+    next.bytes += 3;
+    next.open = 3;
+    next.first = x;
+    next.second = y;
+    next
+}
+
+// The last word of the frame.
+fn last_of(frame: &[u8; 128], placed: usize) -> u8
+    requires { ⌜ placed ≤ 127 ⌝ }
+    ensures { λ r. ⌜ (0 < placed → r ≡ getD (now (frame .entry)) (placed - 1) 0) ⌝ }
+{
+    if placed == 0 {
+        return 0;
+    }
+    frame[placed - 1]
+}
+
+// A nominal stretch while words are placed.
+fn place_run(l: Layers, piece: &[u8], at: usize, frame: &mut [u8; 128]) -> Reached
+    requires { ⌜ Begun (now piece) at (stateWith l (now frame)) ⌝ }
+    requires { ⌜ (l .groups .«open» ≡ 0) × (l .framing .hunting ≡ false) ⌝ }
+    ensures { λ r. ⌜ Reaches (now (piece .entry)) at (stateWith l (now (frame .entry))) (r .at) (stateWith (r .layers) (now (frame .exit))) ⌝ }
+    ensures { λ r. ⌜ r .layers .groups .«open» ≡ 0 ⌝ }
+{
+    let start = l.framing.placed as usize;
+    let r = nominal::place(piece, at, start, frame);
+    let mut next = l;
+    next.groups = after_words(
+        l.groups,
+        (r.at - at) as u64,
+        (r.placed - start) as u64,
+        last_of(frame, r.placed),
+    );
+    next.framing.placed = r.placed as u64;
+    Reached {
+        layers: next,
+        at: r.at,
+    }
+}
+
+// A voted stretch while words are placed.
+fn voted_run(l: Layers, piece: &[u8], at: usize, frame: &mut [u8; 128]) -> Reached
+    requires { ⌜ Begun (now piece) at (stateWith l (now frame)) ⌝ }
+    requires { ⌜ (l .groups .«open» ≡ 0) × (l .framing .hunting ≡ false) ⌝ }
+    ensures { λ r. ⌜ Reaches (now (piece .entry)) at (stateWith l (now (frame .entry))) (r .at) (stateWith (r .layers) (now (frame .exit))) ⌝ }
+    ensures { λ r. ⌜ r .layers .groups .«open» ≡ 0 ⌝ }
+{
+    let start = l.framing.placed as usize;
+    let r = voted::place(piece, at, start, frame);
+    if r.placed == start {
+        return Reached { layers: l, at: at };
+    }
+    let mut next = l;
+    next.groups = after_voted(
+        l.groups,
+        (r.at - at) as u64,
+        (r.placed - start) as u64,
+        r.weak,
+        r.first,
+        r.second,
+    );
+    next.framing.placed = r.placed as u64;
+    Reached {
+        layers: next,
+        at: r.at,
+    }
+}
+
+// What can be placed at once: groups of three equal copies, and from the first bad copy on voted ones.
+fn placed_run(l: Layers, piece: &[u8], at: usize, frame: &mut [u8; 128]) -> Reached
+    requires { ⌜ Begun (now piece) at (stateWith l (now frame)) ⌝ }
+    requires { ⌜ (l .groups .«open» ≡ 0) × (l .framing .hunting ≡ false) ⌝ }
+    ensures { λ r. ⌜ Reaches (now (piece .entry)) at (stateWith l (now (frame .entry))) (r .at) (stateWith (r .layers) (now (frame .exit))) ⌝ }
+    ensures { λ r. ⌜ r .layers .groups .«open» ≡ 0 ⌝ }
+{
+    let r = place_run(l, piece, at, frame);
+    let next = r.layers;
+    if next.framing.placed == LAST_PLACE {
+        return Reached {
+            layers: next,
+            at: r.at,
+        };
+    }
+    if !voted::group_stands(piece, r.at) {
+        return Reached {
+            layers: next,
+            at: r.at,
+        };
+    }
+    voted_run(next, piece, r.at, frame)
+}
+
+// A nominal stretch while the sync is hunted. Where some of it is matched already, the next word is left to the plain step.
+fn hunt_run(l: Layers, piece: &[u8], at: usize) -> Reached
+    requires { ⌜ GroupsRoom (l .groups) × FramingRoom (l .framing) × Fits (l .groups) (now piece) at ⌝ }
+    requires { ⌜ (l .groups .«open» ≡ 0) × (l .framing .hunting ≡ true) ⌝ }
+    ensures { λ r. ⌜ ReachesAnyFrame (now (piece .entry)) at l (r .at) (r .layers) ⌝ }
+    ensures { λ r. ⌜ r .layers .groups .«open» ≡ 0 ⌝ }
+{
+    if l.framing.matched != 0 {
+        return Reached { layers: l, at: at };
+    }
+    let r = nominal::pass(piece, at);
+    let mut next = l;
+    next.groups = after_words(l.groups, (r.at - at) as u64, r.count, r.last);
+    let mut f = l.framing;
+    f.hunted += r.count;
+    next.framing = f;
+    Reached {
+        layers: next,
+        at: r.at,
+    }
+}
+
+// A voted stretch while the sync is hunted. Where some of it is matched already, the next word is left to the plain step.
+fn voted_hunt(l: Layers, piece: &[u8], at: usize) -> Reached
+    requires { ⌜ GroupsRoom (l .groups) × FramingRoom (l .framing) × Fits (l .groups) (now piece) at ⌝ }
+    requires { ⌜ (l .groups .«open» ≡ 0) × (l .framing .hunting ≡ true) ⌝ }
+    ensures { λ r. ⌜ ReachesAnyFrame (now (piece .entry)) at l (r .at) (r .layers) ⌝ }
+    ensures { λ r. ⌜ r .layers .groups .«open» ≡ 0 ⌝ }
+{
+    if l.framing.matched != 0 {
+        return Reached { layers: l, at: at };
+    }
+    let r = voted::pass(piece, at);
+    if r.count == 0 {
+        return Reached { layers: l, at: at };
+    }
+    let mut next = l;
+    next.groups = after_voted(
+        l.groups,
+        (r.at - at) as u64,
+        r.count,
+        r.weak,
+        r.first,
+        r.second,
+    );
+    let mut f = l.framing;
+    f.hunted += r.count;
+    next.framing = f;
+    Reached {
+        layers: next,
+        at: r.at,
+    }
+}
+
+// What is nominal or voted from `at` on. It may be nothing.
+fn nominal_run(l: Layers, piece: &[u8], at: usize, frame: &mut [u8; 128]) -> Reached
+    requires { ⌜ Begun (now piece) at (stateWith l (now frame)) ⌝ }
+    requires { ⌜ l .groups .«open» ≡ 0 ⌝ }
+    ensures { λ r. ⌜ Reaches (now (piece .entry)) at (stateWith l (now (frame .entry))) (r .at) (stateWith (r .layers) (now (frame .exit))) ⌝ }
+    ensures { λ r. ⌜ r .layers .groups .«open» ≡ 0 ⌝ }
+{
+    if l.framing.hunting {
+        let r = hunt_run(l, piece, at);
+        let next = r.layers;
+        return voted_hunt(next, piece, r.at);
+    }
+    placed_run(l, piece, at, frame)
+}
+
+// What stands before the next SYNC; and where a whole group follows, that SYNC and two copies.
+fn open_group(l: Layers, piece: &[u8], at: usize) -> Reached
+    requires { ⌜ GroupsRoom (l .groups) × Fits (l .groups) (now piece) at ⌝ }
+    requires { ⌜ l .groups .«open» ≡ 0 ⌝ }
+    ensures { λ r. ⌜ ReachesAnyFrame (now (piece .entry)) at l (r .at) (r .layers) ⌝ }
+{
+    let skipped = quiet::skip(piece, at);
+    let j = skipped.at;
+    let mut next = l;
+    let g = after_quiet(l.groups, (j - at) as u64, skipped.stray);
+    if piece.len() - j < 4 {
+        next.groups = g;
+        return Reached {
+            layers: next,
+            at: j,
+        };
+    }
+    next.groups = opened(g, piece[j + 1], piece[j + 2]);
+    Reached {
+        layers: next,
+        at: j + 3,
+    }
+}
+
+// As far as nothing can close but FILL and nominal groups before the last place: up to the third copy of any other group, a group that is
+// open already, or the last bytes of the piece.
+pub(crate) fn reach(l: Layers, piece: &[u8], at: usize, frame: &mut [u8; 128]) -> Reached
+    requires { ⌜ Begun (now piece) at (stateWith l (now frame)) ⌝ }
+    ensures { λ r. ⌜ Reaches (now (piece .entry)) at (stateWith l (now (frame .entry))) (r .at) (stateWith (r .layers) (now (frame .exit))) ⌝ }
+{
+    if l.groups.open != 0 {
+        return Reached { layers: l, at: at };
+    }
+    let r = nominal_run(l, piece, at, frame);
+    let next = r.layers;
+    open_group(next, piece, r.at)
+}
