@@ -1,4 +1,4 @@
-// The proved library, through libbridge.a. The only unsafe code here and in pay_api.rs: each lent slice crosses as its pointer and its length.
+// The proved library, through its archives for C. The only unsafe code here and in pay_api.rs: each lent slice crosses as its pointer and its length.
 
 use crate::tally::{Tally, FRAME, NUMBERS};
 

@@ -8,12 +8,14 @@ archive() {
     rt staticlib "$1" >target/bench/staticlib.log 2>&1 || { cat target/bench/staticlib.log >&2; return 1; }
 }
 
-# build NAME: links bench/NAME.rs with both archives to target/bench/NAME. Any rustc from 1.63 on will do; a warning does not stop it, since one
+# build NAME: links bench/NAME.rs with every archive to target/bench/NAME. Any rustc from 1.63 on will do; a warning does not stop it, since one
 # rustc warns of other things than the next.
 build() {
-    archive bridge
-    archive pay_api
+    local name links=()
+    for name in bridge word72_api book_api frame_api pay_api; do
+        archive "$name"
+        links+=(-C "link-arg=target/staticlib/lib$name.a")
+    done
     mkdir -p target/bench
-    rustc --edition 2021 -O -o "target/bench/$1" "bench/$1.rs" -C link-arg=target/staticlib/libbridge.a \
-        -C link-arg=target/staticlib/libpay_api.a
+    rustc --edition 2021 -O -o "target/bench/$1" "bench/$1.rs" "${links[@]}"
 }

@@ -1,5 +1,5 @@
 #!/usr/bin/env bash
-# differential.sh [STREAMS] [SEED]: builds the differential test over libbridge.a and runs it. Stream i has the seed SEED + i, so a stream
+# differential.sh [STREAMS] [SEED]: builds the differential test over the archives for C and runs it. Stream i has the seed SEED + i, so a stream
 # that fails is run alone by `bench/differential.sh 1 ITS_SEED`. 2,000 streams, the default, are for the gate; 100,000 are the long form.
 set -euo pipefail
 cd "$(dirname "${BASH_SOURCE[0]}")/.."

@@ -1,5 +1,5 @@
 #!/usr/bin/env bash
-# rooms.sh: builds the timing of the rooms that stand apart from the reader over libbridge.a and prints its tables.
+# rooms.sh: builds the timing of the rooms that stand apart from the reader over the archives for C and prints its tables.
 set -euo pipefail
 cd "$(dirname "${BASH_SOURCE[0]}")/.."
 source bench/build.sh

@@ -1,9 +1,15 @@
 /*
  * Landsat 7 payload correction data (PCD): the proved library for programs in C.
  *
- *     rt staticlib bridge                                  target/staticlib/libbridge.a: every function here but pcd_pay_..
+ *     rt staticlib bridge                                  target/staticlib/libbridge.a: the reader and the writer
  *     cc -I include program.c target/staticlib/libbridge.a
- *     rt staticlib pay_api                                 target/staticlib/libpay_api.a: pcd_pay_..; both archives may be linked together
+ *
+ * The other archives are made and linked likewise, and any of them together:
+ *
+ *     word72_api    word 72 and its codecs
+ *     book_api      the lookup, books of cycles, the records of a cycle
+ *     frame_api     VCDU headers, the frame store, the data pointer
+ *     pay_api       pcd_pay_..
  *
  * Every function returns the number of its refusal, 0 for none. A refused call leaves all lent memory as it was, but for what pcd_fresh,
  * pcd_book_check and pcd_pay_.. say of theirs. Where several refusals apply, the first in this order is given: 15; 1, 14, 2, 3, 4, 5, 13, 6 to 12,
@@ -70,7 +76,7 @@ extern "C" {
 #define PCD_COMPARISON 1530      /* the numbers of the table of a comparison: 510 lines of three */
 #define PCD_PAY_ANSWER 16        /* the bytes of an answer to the pay system */
 
-/* ---- The reader
+/* ---- The reader (libbridge.a)
  *
  * A tally is PCD_NUMBERS numbers and the minor frame that is being filled. The caller lends both, and hands them on from call to call as
  * they were left. The places of the numbers: */
@@ -154,7 +160,7 @@ uint8_t pcd_relock(uint64_t numbers[PCD_NUMBERS], uint8_t frame[PCD_MINOR_FRAME]
  * Refused: 1, as above; 14. Nothing is written. */
 uint8_t pcd_change_duty(uint64_t numbers[PCD_NUMBERS], uint8_t frame[PCD_MINOR_FRAME], uint64_t operator_number);
 
-/* ---- The writer: for each byte SYNC, three copies and so many FILL as the spacing says, 0 to 60. */
+/* ---- The writer (libbridge.a): for each byte SYNC, three copies and so many FILL as the spacing says, 0 to 60. */
 
 /* Writes a lead-in, the three sync words, into exactly 3 * (4 + spacing) bytes. Refused: 4, 2. */
 uint8_t pcd_write_lead_in(uint64_t spacing, uint8_t *out, size_t out_len);
@@ -162,7 +168,7 @@ uint8_t pcd_write_lead_in(uint64_t spacing, uint8_t *out, size_t out_len);
 /* Writes a minor frame of 128 bytes into exactly 128 * (4 + spacing) bytes. Refused: 4; 2, either length; 5. */
 uint8_t pcd_write_minor_frame(uint64_t spacing, const uint8_t *frame, size_t frame_len, uint8_t *out, size_t out_len);
 
-/* ---- Word 72 */
+/* ---- Word 72 (libword72_api.a) */
 
 /* Puts place 72 of each minor frame of an area of PCD_MAJOR_FRAME bytes into a column of PCD_COLUMN. Refused: 2, either length. */
 uint8_t pcd_gather(const uint8_t *area, size_t area_len, uint8_t *column, size_t column_len);
@@ -188,7 +194,7 @@ uint8_t pcd_part_refusal(const uint8_t *column, size_t column_len, uint64_t kind
  * PCD_DOUBLE goes to number, which otherwise stays. Refused: 2; 13, whatever the item; 6, 7, and by the item's form 8, 9 or 10. */
 uint8_t pcd_read(uint64_t year, const uint8_t *column, size_t column_len, uint64_t kind, uint64_t item, uint64_t out[9], double *number);
 
-/* ---- The codecs of word 72 */
+/* ---- The codecs of word 72 (libword72_api.a) */
 
 /* Reads a time code of PCD_TIME bytes in a year: out gets the spacecraft, 0 to 15, and the instant, in sixteenths of a millisecond, day * 24 hours and
  * on down. Refused: 2; 13; 8, a digit or a field is out of range, as day 366 is in a year that is not divisible by 4. */
@@ -204,13 +210,13 @@ uint8_t pcd_decode_number(const uint8_t *bytes, size_t bytes_len, double *out);
 /* Writes the PCD_NUMBER bytes of a double. Refused: 2; 11, among others negative zero, infinities and not-a-numbers. */
 uint8_t pcd_encode_number(double x, uint8_t *out, size_t out_len);
 
-/* ---- The lookup */
+/* ---- The lookup (libbook_api.a) */
 
 /* Finds the last instant at or before the wanted one, by halving: out gets its place plus one, 0 for none, and how many instants were looked
  * at. Of a list that does not rise, the place that halving comes to. Refused: 12. */
 uint8_t pcd_find(const uint64_t *instants, size_t instants_len, uint64_t wanted, uint64_t out[2]);
 
-/* ---- A book of cycles
+/* ---- A book of cycles (libbook_api.a)
  *
  * The number of cycles and the year, 2 bytes each, first byte highest; an entry of PCD_ENTRY bytes for each cycle; then its body of PCD_BODY
  * bytes for each. */
@@ -240,7 +246,7 @@ uint8_t pcd_book_body(const uint8_t *book, size_t book_len, uint64_t i, uint64_t
  * another size of the table; those of pcd_book_view_refusal for the first, then for the second; 21. */
 uint8_t pcd_book_compare(const uint8_t *first, size_t first_len, const uint8_t *second, size_t second_len, uint64_t *table, size_t table_len, uint64_t *lines);
 
-/* ---- The records of a cycle
+/* ---- The records of a cycle (libbook_api.a)
  *
  * A cycle is PCD_BODY bytes, as a body of a book is. An instant is in sixteenths of a millisecond, as pcd_decode_time gives it: the cycle's time code
  * - 8.192 s, - 4.096 s, + 0 and + 4.096 s for the major frames 0 to 3. Every double is exact. Refused, each of them and in this order: 2, another length;
@@ -262,7 +268,7 @@ uint8_t pcd_clock(const uint8_t *cycle, size_t cycle_len, uint64_t year, double 
 /* The position X, Y, Z in metres and the velocity X', Y', Z' in metres per millisecond of a major frame. Refused: also 8. */
 uint8_t pcd_ephemeris(const uint8_t *cycle, size_t cycle_len, uint64_t year, uint64_t frame, uint64_t *instant, double out[6]);
 
-/* ---- VCDU headers of eight bytes: bytes 0, 1 and 5 are six symbols of four bits, which the four check symbols in bytes 6 and 7 protect. The
+/* ---- VCDU headers of eight bytes (libframe_api.a): bytes 0, 1 and 5 are six symbols of four bits, which the four check symbols in bytes 6 and 7 protect. The
  * counter in bytes 2 to 4 is not protected, and never changes. */
 
 /* Writes the check symbols. Refused: 22. */
@@ -274,7 +280,7 @@ uint8_t pcd_check_header(const uint8_t *header, size_t header_len, uint64_t *out
 /* Puts the only code word within two symbols into the header; out gets how many symbols were wrong. Refused: 22; 23, there is none. */
 uint8_t pcd_repair_header(uint8_t *header, size_t header_len, uint64_t *out);
 
-/* ---- Frames held in the slots of an area
+/* ---- Frames held in the slots of an area (libframe_api.a)
  *
  * The area is 1 to 64 slots of PCD_MAJOR_FRAME bytes; slot i begins at i * PCD_MAJOR_FRAME. The bits tell which are in use, 2^i for slot i: begin with
  * 0 and hand on what each call leaves. */
@@ -288,7 +294,7 @@ uint8_t pcd_release(const uint8_t *area, size_t area_len, uint64_t *bits, uint64
 /* Whether a slot holds a frame, which then stands in the area at slot * PCD_MAJOR_FRAME. Refused: 24, 25, 27. */
 uint8_t pcd_slot_refusal(const uint8_t *area, size_t area_len, uint64_t bits, uint64_t slot);
 
-/* ---- The data pointer, 0 to 84 */
+/* ---- The data pointer, 0 to 84 (libframe_api.a) */
 
 /* The pointer of the next frame. Refused: 28. */
 uint8_t pcd_next_pointer(uint64_t p, uint64_t *out);
@@ -302,7 +308,7 @@ uint8_t pcd_pointer_after(uint64_t p, uint64_t n, uint64_t *out);
 /* The smallest number of frames from p on to q, 0 to 84. Refused: 28, either pointer. */
 uint8_t pcd_pointer_distance(uint64_t p, uint64_t q, uint64_t *out);
 
-/* ---- The pay system
+/* ---- The pay system (libpay_api.a)
  *
  * Each of these writes an answer of PCD_PAY_ANSWER bytes: the number of the refusal (8 bytes), then the result (8 bytes, 0 when refused), first byte
  * highest. It is written after a refusal too. An answer of another length is refused 2 before all else, and then nothing is written. What is

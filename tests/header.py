@@ -14,8 +14,8 @@ NUMBER = {"u8": "uint8_t", "u64": "uint64_t", "i64": "int64_t", "f64": "double"}
 RENAMED = {"operator": "operator_number"}
 
 # An array's length that has a name in its signature.
-CROSSING = open("crates/crossing/src/lib.rt", encoding="utf-8").read()
-LENGTHS = dict(re.findall(r"^pub const (\w+): usize = (\d+);$", CROSSING, re.M))
+TALLY_NUMBERS = open("crates/tally_numbers/src/lib.rt", encoding="utf-8").read()
+LENGTHS = dict(re.findall(r"^pub const (\w+): usize = (\d+);$", TALLY_NUMBERS, re.M))
 
 
 def parameter(name, kind):

@@ -1,54 +1,11 @@
-// The library for programs in other languages: exported entries over the reader, the writer, word 72, its codecs, the lookup, books, VCDU headers,
-// the frame store, the data pointer and the records of a cycle, one file for each. include/pcd.h declares them for C.
-mod books;
-mod codecs;
-mod comparing;
-mod finding;
-mod headers;
-mod pointer;
+// The reader and the writer for programs in other languages: exported entries, one file for each. include/pcd.h declares them for C.
 mod reading;
-mod records;
-mod slots;
-mod word72;
 mod writing;
 
-pub use books::pcd_book_body;
-pub use books::pcd_book_check;
-pub use books::pcd_book_entry;
-pub use books::pcd_book_header;
-pub use books::pcd_book_view_refusal;
-pub use books::pcd_book_write;
-pub use codecs::pcd_decode_number;
-pub use codecs::pcd_decode_time;
-pub use codecs::pcd_encode_number;
-pub use codecs::pcd_encode_time;
-pub use comparing::pcd_book_compare;
-pub use finding::pcd_find;
-pub use headers::pcd_check_header;
-pub use headers::pcd_encode_header;
-pub use headers::pcd_repair_header;
-pub use pointer::pcd_next_pointer;
-pub use pointer::pcd_pointer_after;
-pub use pointer::pcd_pointer_distance;
-pub use pointer::pcd_previous_pointer;
 pub use reading::pcd_change_duty;
 pub use reading::pcd_fresh;
 pub use reading::pcd_relock;
 pub use reading::pcd_take;
 pub use reading::pcd_take_to_lock;
-pub use records::pcd_attitude;
-pub use records::pcd_clock;
-pub use records::pcd_ephemeris;
-pub use records::pcd_gyro_drift;
-pub use records::pcd_temperatures;
-pub use slots::pcd_release;
-pub use slots::pcd_slot_refusal;
-pub use slots::pcd_store;
-pub use word72::pcd_describe;
-pub use word72::pcd_gather;
-pub use word72::pcd_item_count;
-pub use word72::pcd_kind;
-pub use word72::pcd_part_refusal;
-pub use word72::pcd_read;
 pub use writing::pcd_write_lead_in;
 pub use writing::pcd_write_minor_frame;

@@ -3,8 +3,8 @@ ghost use Rattle.crossing.specs.Crossing.{lent, TakeCrossed, FreshCrossed, plac
 ghost use mathlib.Core.Bool.{not};
 ghost use lib.Dec.{eqb};
 ghost use Rattle.crossing.specs.Locking.{LockCrossed};
-ghost use Rattle.crossing.specs.Relocking.{lentFeeder, RelockCrossed};
-use crossing::NUMBERS;
+ghost use Rattle.relock_crossing.specs.Relocking.{lentFeeder, RelockCrossed};
+use tally_numbers::NUMBERS;
 
 // Writes a fresh tally of this rule: 1, by bytes, or 2, by bits. Returns the number of the refusal, 0 for none; after a refusal the fresh tally of
 // rule 1 is written.
@@ -67,7 +67,7 @@ pub extern "C" fn pcd_relock(
         (now (piece .entry)) (not (eqb ends 0)) r
         (lentFeeder (now (numbers .exit)) (now (frame .exit)) (now (feeder .exit)) (now (area .exit)) (now (answer .exit))) ⌝ }
 {
-    crossing::relock(numbers, frame, feeder, piece, ends, area, answer)
+    relock_crossing::relock(numbers, frame, feeder, piece, ends, area, answer)
 }
 
 // Puts an operator on duty. Returns the number of the refusal, 0 for none; a refusal writes nothing.

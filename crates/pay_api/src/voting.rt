@@ -13,7 +13,7 @@ const SPLIT: u64 = 256;
 pub extern "C" fn pcd_pay_vote_bytes(a: u8, b: u8, c: u8, answer: &mut [u8]) -> u8
     ensures { λ r. ⌜ VoteAnswer (byteVote a b c) r (now (answer .entry)) (now (answer .exit)) ⌝ }
 {
-    let voted = plain_steps::vote(a, b, c);
+    let voted = votes::vote(a, b, c);
     let word = voted.word;
     put_word(word, answer)
 }
@@ -23,7 +23,7 @@ pub extern "C" fn pcd_pay_vote_bytes(a: u8, b: u8, c: u8, answer: &mut [u8]) -> 
 pub extern "C" fn pcd_pay_vote_bits(a: u8, b: u8, c: u8, answer: &mut [u8]) -> u8
     ensures { λ r. ⌜ VoteAnswer (bitVote a b c) r (now (answer .entry)) (now (answer .exit)) ⌝ }
 {
-    let voted = plain_steps::vote_bits(a, b, c);
+    let voted = votes::vote_bits(a, b, c);
     let word = voted.word;
     put_word(word, answer)
 }

@@ -18,12 +18,14 @@ use Rattle.labelling.specs.MinorFrames.{isWord}
 use Rattle.labelling.specs.Machine.{closes, afterClosing, afterByte, wordGiven, byteEvent, byteStep}
 use Rattle.labelling.specs.Machine.{WordEvent, hunts, locks, fills, closes-frame, huntEvent, wordEvent, afterWord, frameAfter}
 use Rattle.labelling.specs.Machine.{FrameEvent, nothing, closedEvent, frameEvent, afterFrame, areaAfter, isComplete, Now, wordStep}
+use Rattle.votes.specs.declared.Voted.{Voted}
+use Rattle.votes.specs.Promise.{VotePromise}
+use Rattle.layer_steps.specs.declared.major.Ended.{Ended}
+use Rattle.layer_steps.specs.declared.minor.Closing.the-variants.{Nothing, Frame}
+use Rattle.layer_steps.specs.declared.minor.Framed.{Framed}
+use Rattle.layer_steps.specs.Shapes.{eventOf, PlacePromise, EndPromise}
 use Rattle.plain_steps.specs.declared.layers.Layers.{Layers}
-use Rattle.plain_steps.specs.declared.major.Ended.{Ended}
-use Rattle.plain_steps.specs.declared.minor.Closing.the-variants.{Nothing, Frame}
-use Rattle.plain_steps.specs.declared.minor.Framed.{Framed}
-use Rattle.plain_steps.specs.declared.votes.Voted.{Voted}
-use Rattle.plain_steps.specs.Shapes.{VotePromise, eventOf, PlacePromise, EndPromise, stateWith, nowOf}
+use Rattle.plain_steps.specs.Shapes.{stateWith, nowOf}
 
 -- ---- a word
 

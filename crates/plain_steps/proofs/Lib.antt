@@ -1,4 +1,1 @@
-mod Voting
-mod Placed
-mod Closed
 mod Joined

@@ -6,16 +6,16 @@ ghost use Rattle.labelling.specs.Votes.{ruleVote};
 ghost use Rattle.labelling.specs.Machine.{wordStep, byteStep};
 ghost use Rattle.labelling.specs.Order.{stateInOrder};
 ghost use Rattle.order.specs.Room.{FramingRoom, RunsRoom};
-ghost use Rattle.plain_steps.specs.Shapes.{Lent, stateWith, nowOf};
-use crate::groups;
-use crate::major;
-use crate::minor;
-use crate::minor::Closing;
-use crate::votes;
+ghost use Rattle.layer_steps.specs.Shapes.{Lent};
+ghost use Rattle.plain_steps.specs.Shapes.{stateWith, nowOf};
 use labelling::Framing;
 use labelling::Groups;
 use labelling::Runs;
 use labelling::Word;
+use layer_steps::groups;
+use layer_steps::major;
+use layer_steps::minor;
+use layer_steps::minor::Closing;
 
 // A state without its frame, which is lent beside it: so a byte copies counts and no frame.
 pub struct Layers {

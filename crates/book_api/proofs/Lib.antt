@@ -1,0 +1,4 @@
+pub mod BookCrossed
+pub mod ComparedCrossed
+pub mod FoundCrossed
+pub mod RecordsCrossed

@@ -1,0 +1,4 @@
+pub mod Books
+pub mod Comparing
+pub mod Finding
+pub mod Records

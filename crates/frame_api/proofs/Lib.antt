@@ -1,0 +1,3 @@
+pub mod HeaderCrossed
+pub mod PointerCrossed
+pub mod SlotsCrossed

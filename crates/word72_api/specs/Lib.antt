@@ -1,0 +1,2 @@
+pub mod LentPlaces
+pub mod Word72
