@@ -13,9 +13,13 @@ wants() {
         exit 0
     fi
     if [ $# -lt "$least" ] || [ $# -gt "$most" ]; then
-        printf '%s\n' "$usage" | sed -n 1p >&2
-        exit 2
+        refuse_usage
     fi
+}
+
+refuse_usage() {
+    printf '%s\n' "$usage" | sed -n 1p >&2
+    exit 2
 }
 
 # stack KIB: the soft limit of the stack, raised where it is lower. There is no heap: the largest books are held on the stack.

@@ -35,7 +35,12 @@ pub fn put_legend(out: &mut [u8], at: usize, y: u64, class: u64) -> usize
     ensures { λ r. ⌜ Adds (now (out .entry)) at (legendText y class) (now (out .exit)) r ⌝ }
 {
     let placed = put_field(&mut *out, at, b"<rect x=\"10\" y=\"", y);
-    let classed = put_field(&mut *out, placed, b"\" width=\"12\" height=\"12\" class=\"c", class);
+    let classed = put_field(
+        &mut *out,
+        placed,
+        b"\" width=\"12\" height=\"12\" class=\"c",
+        class,
+    );
     let worded = put_field(&mut *out, classed, b"\"/><text x=\"28\" dy=\"10\" y=\"", y);
     put(out, worded, b"\">")
 }

@@ -40,7 +40,14 @@ returns-6 c =
     let three = four .before .before .before in
     let two = three .before .before .before in
     let one = two .before .before .before in
-    rw (le-ltb _ _ (one .if1 .left), le-ltb _ _ (two .if2 .left), le-ltb _ _ (three .if3 .left), le-ltb _ _ (four .if4 .left), le-ltb _ _ (five .if5 .left), lt-ltb _ _ (c .if6 .taken))
+    rw (
+      le-ltb _ _ (one .if1 .left),
+      le-ltb _ _ (two .if2 .left),
+      le-ltb _ _ (three .if3 .left),
+      le-ltb _ _ (four .if4 .left),
+      le-ltb _ _ (five .if5 .left),
+      lt-ltb _ _ (c .if6 .taken),
+    )
 
 returns-7 : tie.Need-returns-7
 returns-7 c =
@@ -49,7 +56,14 @@ returns-7 c =
     let three = four .before .before .before in
     let two = three .before .before .before in
     let one = two .before .before .before in
-    rw (le-ltb _ _ (one .if1 .left), le-ltb _ _ (two .if2 .left), le-ltb _ _ (three .if3 .left), le-ltb _ _ (four .if4 .left), le-ltb _ _ (five .if5 .left), le-ltb _ _ (c .if6 .left))
+    rw (
+      le-ltb _ _ (one .if1 .left),
+      le-ltb _ _ (two .if2 .left),
+      le-ltb _ _ (three .if3 .left),
+      le-ltb _ _ (four .if4 .left),
+      le-ltb _ _ (five .if5 .left),
+      le-ltb _ _ (c .if6 .left),
+    )
 
 pub class-of-spec : {M : Type 1} → statement M
 class-of-spec = tie.close (tie.spec returns returns-2 returns-3 returns-4 returns-5 returns-6 returns-7)

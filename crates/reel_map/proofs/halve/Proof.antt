@@ -28,12 +28,12 @@ add-i : tie.Need-add-i Inv-loop μ-loop
 add-i c = omega arith
 
 loop-less : tie.Need-loop-less Inv-loop μ-loop
-loop-less c = 
+loop-less c =
     let looped = c .before .before .before .loop in
     omega (arith, length-set (looped .cells) (looped .i) (c .pair .result))
 
 loop-again : tie.Need-loop-again Inv-loop μ-loop
-loop-again c = 
+loop-again c =
     let looped = c .before .before .before .loop in
     let old = now (c .before .before .before .before .before .args .cells) in
     let here = c .before .before .loop-test .taken in
@@ -45,7 +45,7 @@ same-length : tie.Need-same-length Inv-loop μ-loop
 same-length c = c .before .loop .inv .1 .size-is
 
 returns : tie.Need-returns Inv-loop μ-loop
-returns c = 
+returns c =
     let looped = c .before .loop in
     let old = now (c .before .before .before .args .cells) in
     upto-end (pairIn old) old (looped .cells) (looped .i) (λ k p l. absurd (omega (arith, p, l, c .loop-test .left, looped .inv .1 .size-is))) (looped .inv .1)

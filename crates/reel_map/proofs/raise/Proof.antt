@@ -15,7 +15,7 @@ abbrev μ-loop : tie.MeasureT-loop
 μ-loop cells₀ from to class i₀ cells i = length cells - i
 
 loop-holds : tie.Need-loop-holds Inv-loop μ-loop
-loop-holds c = 
+loop-holds c =
     let a = c .before .args in
     let old = now (a .cells) in
     (omega arith, upto-begin (raisedAt old (a .from) (a .to) (a .class)) old (a .from) (not-before old (a .from) (a .to) (a .class)))
@@ -24,7 +24,7 @@ same-length : tie.Need-same-length Inv-loop μ-loop
 same-length c = c .before .before .loop .inv .1 .size-is
 
 returns : tie.Need-returns Inv-loop μ-loop
-returns c = 
+returns c =
     let looped = c .before .before .loop in
     let a = c .before .before .before .before .args in
     let old = now (a .cells) in
@@ -45,12 +45,12 @@ add-i : tie.Need-add-i Inv-loop μ-loop
 add-i c = omega arith
 
 loop-less : tie.Need-loop-less Inv-loop μ-loop
-loop-less c = 
+loop-less c =
     let looped = c .before .before .before .before .loop in
     omega (arith, length-set (looped .cells) (looped .i) (c .the-higher .result))
 
 loop-again : tie.Need-loop-again Inv-loop μ-loop
-loop-again c = 
+loop-again c =
     let within = c .before .before in
     let looped = within .before .before .loop in
     let a = within .before .before .before .before .args in
@@ -58,13 +58,14 @@ loop-again c =
     let u = looped .inv .1 in
     let v = c .the-higher .result in
     let so = raise-step old (a .from) (a .to) (a .class) (looped .cells) (looped .i) v u (looped .inv .0) (within .if1 .left) (c .the-higher .ensures) in
-    (omega (arith, looped .inv .0), upto-next (raisedAt old (a .from) (a .to) (a .class)) old (looped .cells) (looped .i) v (within .before .loop-test .taken) so u)
+    let here = within .before .loop-test .taken in
+    (omega (arith, looped .inv .0), upto-next (raisedAt old (a .from) (a .to) (a .class)) old (looped .cells) (looped .i) v here so u)
 
 same-length-2 : tie.Need-same-length-2 Inv-loop μ-loop
 same-length-2 c = c .before .loop .inv .1 .size-is
 
 returns-2 : tie.Need-returns-2 Inv-loop μ-loop
-returns-2 c = 
+returns-2 c =
     let looped = c .before .loop in
     let a = c .before .before .before .args in
     let old = now (a .cells) in

@@ -24,7 +24,7 @@ at-requires-2 : tie.Need-at-requires-2 Inv-loop μ-loop
 at-requires-2 c κs = tt
 
 returns : tie.Need-returns Inv-loop μ-loop
-returns c = 
+returns c =
     let looped = c .before .before .before in
     let a = looped .before .before .before .args in
     alike-stopped (now (a .cells)) (a .from) (a .end) (looped .loop .i)
@@ -37,14 +37,14 @@ loop-less : tie.Need-loop-less Inv-loop μ-loop
 loop-less c = omega arith
 
 loop-again : tie.Need-loop-again Inv-loop μ-loop
-loop-again c = 
+loop-again c =
     let looped = c .before .before .before in
     let a = looped .before .before .before .args in
     let same = sym (c .before .at2 .ensures) ∙ c .if1 .left ∙ looped .before .at .ensures in
     alike-next (now (a .cells)) (a .from) (a .end) (looped .loop .i) (c .before .before .loop-test .taken) same (looped .loop .inv)
 
 returns-2 : tie.Need-returns-2 Inv-loop μ-loop
-returns-2 c = 
+returns-2 c =
     let looped = c .before in
     let a = looped .before .before .before .args in
     alike-ended (now (a .cells)) (a .from) (a .end) (looped .loop .i) (c .loop-test .left) (looped .loop .inv)
