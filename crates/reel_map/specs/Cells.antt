@@ -2,7 +2,7 @@
 use mathlib.Core.Path.{_≡_}
 use mathlib.Core.Bool.{Bool, cond, _&&_}
 use mathlib.Core.List.{List, [], _∷_}
-use Prim.Native.Nat.{ℕ, _+_, _*_, _≤_, _<_}
+use Prim.Native.Nat.{ℕ, _+_, _*_, _/_, _^_, _≤_, _<_}
 use lib.Dec.{leb, ltb, eqb}
 use lib.ListN.{length, take, drop, getD}
 use Rattle.base.specs.Ranges.{tabulate}
@@ -79,6 +79,11 @@ looked m t = record {
   building = t .runs .building;
   broken = t .runs .broken;
 }
+
+-- the next cell: the one behind it; where the map is full, its cells are joined, and each has twice as many bytes
+pub record NextPromise (m : Map) (old new : List ℕ) (r : Map) : Type 0 where
+  pub goes-on : m .cell + 1 < length old → (new ≡ old) × (r .cell ≡ m .cell + 1) × (r .length ≡ m .length)
+  pub joins : m .cell + 1 ≡ length old → (new ≡ halved old) × (r .cell ≡ (m .cell + 1) / 2) × (m .length < 2 ^ 61 → r .length ≡ 2 * m .length)
 
 -- equal cells stand from one place to another, and they end there or at `end`
 pub record RunEnd (cells : List ℕ) (from end r : ℕ) : Type 0 where

@@ -2,8 +2,9 @@
 mod text;
 
 ghost use mathlib.Core.Path.{_≡_};
+ghost use Prim.Native.Nat.{_+_, _*_, _/_, _^_, _<_};
 ghost use lib.ListN.{getD};
-ghost use Rattle.reel_map.specs.Cells.{higher, classOf, seenIn, pairIn, raised, halved, RunEnd, looked};
+ghost use Rattle.reel_map.specs.Cells.{higher, classOf, seenIn, pairIn, raised, halved, RunEnd, looked, NextPromise};
 use labelling::Tally;
 pub use text::put_label;
 pub use text::put_legend;
@@ -91,24 +92,35 @@ pub fn mark(m: Map, t: Tally, cells: &mut [u8])
 }
 
 // The next cell. Where there is none, cells are joined in pairs, and each has twice as many bytes.
-pub fn next(m: Map, t: Tally, cells: &mut [u8]) -> Map {
-    let cell = one_more(m.cell);
+pub fn next(m: Map, t: Tally, cells: &mut [u8]) -> Map
+    ensures { λ r. ⌜ NextPromise m (now (cells .entry)) (now (cells .exit)) r ⌝ }
+{
+    let cell = m.cell;
     if cells.len() <= cell {
-        halve(cells);
-        return widened(m, t, cell);
+        return m;
     }
-    moved(m, t, cell)
+    let after = cell + 1;
+    if after < cells.len() {
+        return moved(m, t, after);
+    }
+    halve(cells);
+    widened(m, t, after)
 }
 
-fn moved(m: Map, t: Tally, cell: usize) -> Map {
+fn moved(m: Map, t: Tally, cell: usize) -> Map
+    ensures { λ r. ⌜ (r .cell ≡ cell) × (r .length ≡ m .length) ⌝ }
+{
     let mut r = look(m, t);
     r.seen = counts_of(t);
     r.cell = cell;
+    r.length = m.length;
     r.end = sum(m.end, m.length);
     r
 }
 
-fn widened(m: Map, t: Tally, cell: usize) -> Map {
+fn widened(m: Map, t: Tally, cell: usize) -> Map
+    ensures { λ r. ⌜ (r .cell ≡ cell / 2) × (m .length < 2 ^ 61 → r .length ≡ 2 * m .length) ⌝ }
+{
     let mut r = look(m, t);
     r.seen = counts_of(t);
     r.cell = cell / 2;
@@ -136,15 +148,10 @@ fn look(m: Map, t: Tally) -> Map
     r
 }
 
-fn one_more(n: usize) -> usize {
-    if n < 1000000 {
-        return n + 1;
-    }
-    n
-}
-
 // A sum, or 2^62 where it is as large or larger.
-pub fn sum(a: u64, b: u64) -> u64 {
+pub fn sum(a: u64, b: u64) -> u64
+    ensures { λ r. ⌜ (a + b < 2 ^ 62 → r ≡ a + b) ⌝ }
+{
     if LIMIT <= a {
         return LIMIT;
     }
