@@ -1,4 +1,5 @@
 -- `reel_map::next` meets its contract: the next cell is there, or the cells are joined. Assumes nothing.
+use native.Mathlib.Omega.{arith}
 use denote.Ref.{now}
 use borrow.Author.Needs.{needs}
 use Rattle.reel_map.proofs.Cells.{next-none, next-goes, next-joins}
@@ -19,7 +20,7 @@ moved-requires c κs = search needs
 returns-2 : tie.Need-returns-2
 returns-2 c =
     let a = c .before .before .before .before .args in
-    next-goes (a .m) (c .moved .result) (now (a .cells)) (c .before .if2 .taken) (c .moved .ensures)
+    next-goes (a .m) (c .moved .result) (now (a .cells)) (omega (arith, c .before .if2 .taken)) (c .moved .ensures)
 
 halve-requires : tie.Need-halve-requires
 halve-requires c κs = search needs
