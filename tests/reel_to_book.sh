@@ -49,6 +49,7 @@ done <"$work/asked"
 
 bin/pcd-map "$work/reel" >"$work/map.svg"
 said 'map: status' 0 $?
+same 'map: the picture in docs' docs/map.svg "$work/map.svg"
 said 'map: well formed' '' "$(python3 -c 'import sys, xml.dom.minidom as x; x.parse(sys.argv[1])' "$work/map.svg" 2>&1)"
 
 [ "$failed" -eq 0 ] && echo 'from a reel to a book: all as stated' || echo 'from a reel to a book: something differs'
