@@ -8,9 +8,9 @@ use lib.ListN.{getD}
 use native.Mathlib.Omega.{arith}
 use borrow.Author.Tests.{ne-eqb}
 use Rattle.base.specs.Lists.{one}
-use Rattle.feeding.specs.declared.relock.Feeder.{Feeder}
-use Rattle.feeding.specs.declared.relock.Relocked.{Relocked}
-use Rattle.feeding.specs.Relock.{Move, move, moved, areaMoved, RelockPromise}
+use Rattle.relocking.specs.declared.Feeder.{Feeder}
+use Rattle.relocking.specs.declared.Relocked.{Relocked}
+use Rattle.relocking.specs.Relock.{Move, move, moved, areaMoved, RelockPromise}
 use Rattle.crossing.specs.Crossing.{isTally, numbersOf}
 use Rattle.crossing.specs.Relocking.{isFeeder, LentFeeder, lentFeeder, feederIn, relockRefused, stepWritten, relockLeaves, RelockCrossed}
 

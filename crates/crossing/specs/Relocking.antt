@@ -7,9 +7,9 @@ use lib.Dec.{eqb, ltb}
 use lib.ListN.{length, getD}
 use Rattle.base.specs.Lists.{one}
 use Rattle.base.specs.Refusal.{_when_, answered}
-use Rattle.feeding.specs.declared.relock.Feeder.{Feeder}
-use Rattle.feeding.specs.declared.relock.Relocked.{Relocked}
-use Rattle.feeding.specs.Relock.{relockRefusal, move, moved, areaMoved}
+use Rattle.relocking.specs.declared.Feeder.{Feeder}
+use Rattle.relocking.specs.declared.Relocked.{Relocked}
+use Rattle.relocking.specs.Relock.{relockRefusal, move, moved, areaMoved}
 use Rattle.crossing.specs.Crossing.{isTally, tallyOf, numbersOf}
 
 -- the numbers are a feeder's: a tally's, and a flag that is 1 or 0

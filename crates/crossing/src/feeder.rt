@@ -6,7 +6,7 @@ ghost use lib.Dec.{eqb};
 ghost use Rattle.crossing.specs.Relocking.{isFeeder, feederOf, lentFeeder, RelockCrossed};
 use crate::NUMBERS;
 use base::refusal::NOT_IN_ORDER;
-use feeding::relock::Feeder;
+use relocking::Feeder;
 
 // One step on a piece of the reel; `ends` is 0 where more bytes may follow the piece. Returns the number of the refusal, 0 for none; a refusal writes
 // nothing. `answer` gets the bytes taken, then 1 where a major frame is complete, then 1 where the bytes left are asked for again with more behind
@@ -29,7 +29,7 @@ pub fn relock(
         return NOT_IN_ORDER;
     }
     let f = feeder_of(&*numbers, &*frame, &*feeder);
-    let r = feeding::relock::relock(f, piece, ends != 0, area);
+    let r = relocking::relock(f, piece, ends != 0, area);
     if r.refusal != 0 {
         return r.refusal;
     }

@@ -3,10 +3,11 @@
 use mathlib.Core.Path.{_≡_, refl, sym, ap, _∙_}
 use mathlib.Core.Bool.{Bool, true, false, cond}
 use mathlib.Core.List.{List, [], _∷_, _++_, append-nil}
-use Prim.Native.Nat.{ℕ, zero, suc, _+_, _-_, _^_, _≤_}
+use Prim.Native.Nat.{ℕ, zero, suc, _+_, _-_, _^_, _≤_, _<_}
 use native.Mathlib.Omega.{arith}
-use lib.ListN.{length, take, drop, length-append, length-drop}
-use lib.Seq.{length-take-le}
+use native.Mathlib.Numerals.{add-one}
+use lib.ListN.{length, take, drop, set, getD, length-append, length-drop, length-set}
+use lib.Seq.{length-take-le, take-suc, take-suc-set, getD-set-other, getD-drop}
 use Rattle.base.specs.Lists.{one}
 use Rattle.labelling.specs.declared.Tally.{Tally}
 use Rattle.labelling.specs.Calls.{TakeCall, takeRefusal, Answer, answer, taken, pays, DutyCall, dutyRefusal, dutyAnswer, Call, takes, changes, joined, paid}
@@ -19,11 +20,11 @@ use Rattle.labelling.proofs.CallLaws.{refused-answer, duty-refused}
 use Rattle.own_sync.specs.Relocking.{done as nothing-relocked, changed as changed-between}
 use Rattle.reader.specs.declared.Taken.{Taken}
 use Rattle.reader.specs.Shapes.{callOf, dutyCallOf, TakePromise}
-use Rattle.feeding.specs.declared.relock.Feeder.{Feeder}
-use Rattle.feeding.specs.declared.relock.Relocked.{Relocked}
-use Rattle.feeding.specs.Relock.{beginning, Move, reads, asks, leads, move, moved, ledBy, RelockPromise}
+use Rattle.relocking.specs.declared.Feeder.{Feeder}
+use Rattle.relocking.specs.declared.Relocked.{Relocked}
+use Rattle.relocking.specs.Relock.{beginning, Move, reads, asks, leads, move, moved, ledBy, RelockPromise}
 use Rattle.feeding.proofs.CallLists.{paid-append, handed-one, joined-one, paid-one, joined-none, paid-none}
-use Rattle.feeding.proofs.ReadingReels.{relocked-append}
+use Rattle.relocking.proofs.ReadingReels.{relocked-append}
 use Rattle.reel_reading.specs.declared.Advanced.{Advanced}
 use Rattle.reel_reading.specs.declared.Event.the-variants.{Cut}
 use Rattle.reel_reading.specs.declared.Reel.{Reel}
@@ -210,3 +211,25 @@ cut-here reel a = keeps-advanced reel _ a (record { strict-is = refl; taken-is =
 
 pub part-length : (at k : ℕ) (l : List ℕ) → k ≤ length l - at → length (take k (drop at l)) ≡ k
 part-length at k l h = length-take-le k (drop at l) (omega (arith, length-drop at l))
+
+-- ---- bytes that go to the front
+
+-- i bytes of `old` from place `at` on stand at the front of l, and behind them nothing has changed
+pub record Moved (old : List ℕ) (at i : ℕ) (l : List ℕ) : Type 0 where
+  pub size-is : length l ≡ length old
+  pub front-is : take i l ≡ take i (drop at old)
+  pub rest-stays : (k : ℕ) → i ≤ k → getD l k 0 ≡ getD old k 0
+
+pub moved-none : (old : List ℕ) (at : ℕ) → Moved old at 0 old
+moved-none old at = record { size-is = refl; front-is = refl; rest-stays = λ k h. refl }
+
+pub moved-one : (old : List ℕ) (at i : ℕ) (l : List ℕ) → Moved old at i l → at + i < length old → Moved old at (i + 1) (set l i (getD l (at + i) 0))
+moved-one old at i l m h = record {
+  size-is = rw length-set (m .size-is);
+  front-is =
+      let same : getD l (at + i) 0 ≡ getD (drop at old) i 0 = m .rest-stays (at + i) (omega arith) ∙ sym (getD-drop at old i 0) in
+      let moved = take-suc-set l i (getD l (at + i) 0) (omega (arith, m .size-is)) in
+      let wanted = take-suc (drop at old) i 0 (omega (arith, length-drop at old)) in
+      rw (add-one, moved, wanted, m .front-is, same);
+  rest-stays = λ k b. getD-set-other l i k (getD l (at + i) 0) 0 (λ e. omega (arith, e)) ∙ m .rest-stays k (omega arith);
+}

@@ -9,9 +9,9 @@ use lib.ListN.{length, take, replicate}
 use Rattle.base.specs.Lists.{one}
 use Rattle.labelling.specs.Calls.{Call, joined, paid, Handed}
 use Rattle.own_sync.specs.Relocking.{Relocked as RelockedCalls}
-use Rattle.feeding.specs.declared.relock.Feeder.{Feeder}
-use Rattle.feeding.specs.declared.relock.Relocked.{Relocked}
-use Rattle.feeding.specs.Relock.{beginning}
+use Rattle.relocking.specs.declared.Feeder.{Feeder}
+use Rattle.relocking.specs.declared.Relocked.{Relocked}
+use Rattle.relocking.specs.Relock.{beginning}
 use Rattle.reel_reading.specs.declared.Event.{Event}
 use Rattle.reel_reading.specs.declared.Event.the-variants.{Onward, Filled, Complete, Cut, Ended, Unreadable, Refused}
 use Rattle.reel_reading.specs.declared.Advanced.{Advanced}

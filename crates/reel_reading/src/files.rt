@@ -2,9 +2,10 @@
 ghost use mathlib.Core.Path.{_≡_};
 ghost use mathlib.Core.Bool.{false};
 ghost use Prim.Native.Nat.{_+_, _≤_, _<_};
+ghost use lib.ListN.{take, drop};
 ghost use Rattle.reel_reading.specs.Reading.{isComplete, Keeps};
-use crate::Event;
 use crate::Advanced;
+use crate::Event;
 use crate::Reel;
 use libc::STDIN_FILENO;
 
@@ -129,7 +130,9 @@ fn open(program: &[u8], i: usize) -> i32 {
 }
 
 // Moves the bytes from `at` to `end` to the front, and answers how many they are.
-fn to_front(buffer: &mut [u8], at: usize, end: usize) -> usize {
+fn to_front(buffer: &mut [u8], at: usize, end: usize) -> usize
+    ensures { λ r. ⌜ take r (now (buffer .exit)) ≡ take r (drop at (now (buffer .entry))) ⌝ }
+{
     let n = between(at, end, buffer.len());
     let mut i: usize = 0;
     while i < n {

@@ -8,13 +8,13 @@ ghost use mathlib.Core.List.{List};
 ghost use Prim.Native.Nat.{ℕ, _+_, _^_, _≤_, _<_};
 ghost use lib.ListN.{length};
 ghost use Rattle.base.specs.Lists.{one};
-ghost use Rattle.feeding.specs.Relock.{beginning};
+ghost use Rattle.relocking.specs.Relock.{beginning};
 ghost use Rattle.reel_reading.specs.Reading.{StepPromise, SteppedPromise, Stands, isComplete, AdvancePromise, Keeps, blank};
 use base::refusal::TOO_MANY_BYTES;
-use feeding::relock::Feeder;
-use feeding::relock::Relocked;
-use feeding::relock::relock;
 use order::LIMIT;
+use relocking::Feeder;
+use relocking::Relocked;
+use relocking::relock;
 
 // The program keeps the vote by bytes.
 const RULE: u64 = 1;
@@ -63,7 +63,7 @@ pub struct Advanced {
 
 // A reel of which nothing is read, in the files that the arguments from this one on name.
 pub fn begin(strict: bool, file: usize) -> Reel
-    ensures { λ r. ⌜ Stands r blank ⌝ }
+    ensures { λ r. ⌜ Stands r blank × (r .frames ≡ 0) ⌝ }
 {
     let begun = reader::fresh(RULE);
     let tally = begun.tally;

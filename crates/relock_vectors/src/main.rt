@@ -4,7 +4,7 @@ mod report;
 
 ghost use Prim.Native.Nat.{_≤_};
 ghost use lib.ListN.{length};
-use feeding::relock::Feeder;
+use relocking::Feeder;
 use vectors::filled;
 use vectors::number;
 use vectors::sum;
@@ -119,7 +119,7 @@ fn is_done(r: Reading, size: usize) -> bool {
 fn step(r: Reading, reel: &[u8], piece: u64, area: &mut [u8]) -> Reading {
     let f = r.feeder;
     let size = reel.len() as u64;
-    let a = feeding::relock::relock(f, in_hand(reel, r.at, r.end), size <= r.end, &mut *area);
+    let a = relocking::relock(f, in_hand(reel, r.at, r.end), size <= r.end, &mut *area);
     let at = sum(r.at, a.taken as u64);
     report::paid(a.complete, at, area);
     let next = a.feeder;

@@ -9,7 +9,7 @@ fresh-requires : tie.Need-fresh-requires
 fresh-requires c κs = search needs
 
 returns : tie.Need-returns
-returns c = stands-begun _ (begun-so _ (c .before .fresh .ensures .is-fresh)) refl refl
+returns c = (stands-begun _ (begun-so _ (c .before .fresh .ensures .is-fresh)) refl refl, refl)
 
 pub begin-spec : {M : Type 1} → statement M
 begin-spec = tie.close (tie.spec fresh-requires returns)

@@ -1,0 +1,34 @@
+-- `pcd_frames::report::put_lead_ins` meets its contract: one part behind the other. Assumes nothing.
+use Rattle.command.proofs.TextLaws.{adds-append}
+use borrow.Author.Needs.{needs}
+use Rattle.pcd_frames.proofs.report.put_lead_ins.Statement.{statement}
+use Rattle.pcd_frames.proofs.report.put_lead_ins.Tie as tie
+
+slice-aggregate-put-field : tie.Need-slice-aggregate-put-field
+slice-aggregate-put-field c = search needs
+
+put-field-requires : tie.Need-put-field-requires
+put-field-requires c κs = search needs
+
+slice-aggregate-put : tie.Need-slice-aggregate-put
+slice-aggregate-put c = search needs
+
+put-requires : tie.Need-put-requires
+put-requires c κs = search needs
+
+same-length : tie.Need-same-length
+same-length c = search needs
+
+returns : tie.Need-returns
+returns c = search (needs, adds-append)
+
+pub put-lead-ins-spec : {M : Type 1} → statement M
+put-lead-ins-spec =
+    tie.close
+    (tie.spec
+    slice-aggregate-put-field
+    put-field-requires
+    slice-aggregate-put
+    put-requires
+    same-length
+    returns)

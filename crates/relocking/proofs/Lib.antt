@@ -1,0 +1,4 @@
+pub mod Waiting
+pub mod Relocking
+pub mod Moves
+pub mod ReadingReels
