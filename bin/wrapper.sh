@@ -22,6 +22,17 @@ refuse_usage() {
     exit 2
 }
 
+# wants_year WORD..: `--year Y` or `--year=Y` and nothing else; the year is left in `year`.
+wants_year() {
+    wants 1 2 "$@"
+    year=${1#--year=}
+    if [ "$1" = --year ] && [ $# -eq 2 ]; then
+        year=$2
+    elif [ "$1" = "$year" ] || [ $# -ne 1 ]; then
+        refuse_usage
+    fi
+}
+
 # stack KIB: the soft limit of the stack, raised where it is lower. There is no heap: the largest books are held on the stack.
 stack() {
     local limit

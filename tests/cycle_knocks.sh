@@ -39,6 +39,7 @@ for program in "$book" "$orbit"; do
     knock "$program: no year" 2 '' 'usage' "$program <$work/one"
     knock "$program: another option" 2 '' 'usage' "$program --day 1 <$work/one"
 done
+knock 'the year behind an equals sign' 0 '' none "bash -c '$book --year=2003 <$work/one >$work/equals; cmp $work/equals $work/one.book'"
 knock 'book: a directory' 1 '' 'standard input: Is a directory' "$book --year 2003 <$work"
 knock 'orbit: a directory' 1 "$(head -n 1 crates/pcd_orbit/stdout)" 'standard input: Is a directory' "$orbit --year 2003 <$work"
 
