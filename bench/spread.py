@@ -22,12 +22,13 @@ def sections(path):
 
 
 def label(head):
-    """`five FILL 65536` as a stream and a piece, of 300 bytes at least; a stream alone in the table of the program."""
+    """`five FILL 65536` as a stream and a piece, of 300 bytes at least or whole; a stream alone in the table of the program."""
     words = head.split()
+    if words[-1] == "whole":
+        return " ".join(words[:-1]), "whole"
     if not words[-1].isdigit() or int(words[-1]) < 300:
         return head, None
-    piece = int(words[-1])
-    return " ".join(words[:-1]), "whole" if piece > 1 << 20 else format(piece, ",")
+    return " ".join(words[:-1]), format(int(words[-1]), ",")
 
 
 def spread(values):
