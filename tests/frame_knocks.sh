@@ -7,26 +7,12 @@ cd "$(dirname "${BASH_SOURCE[0]}")/.."
 program=target/bin/pcd_frames
 frames=bin/pcd-frames
 memory=65536    # KiB of address space that the program may have on the longest input
-[ -x "$program" ] || rt check pcd_frames >&2 || exit 1
-work=$(mktemp -d)
-trap 'rm -rf "$work"' EXIT
-failed=0
+. tests/knock.sh
+built pcd_frames
 
-# knock NAME STATUS OUT ERR COMMAND: runs the command. OUT is a file with the standard output wanted; ERR a file with the standard error wanted, or
-# text that a line on it must contain.
-knock() {
-    local name=$1 status=$2 out=$3 err=$4 got said=ok
-    (eval "timeout 120 $5") >"$work/out" 2>"$work/err"
-    got=$?
-    [ "$got" -eq "$status" ] || said="ends with status $got, not $status"
-    cmp -s "$out" "$work/out" || said="writes to standard output: $(head -c 100 "$work/out" | od -c | head -3)"
-    if [ -f "$err" ]; then
-        cmp -s "$err" "$work/err" || said="writes to standard error: $(diff "$err" "$work/err" | head -5)"
-    else
-        grep -q -- "$err" "$work/err" || said="writes to standard error: $(head -c 300 "$work/err")"
-    fi
-    echo "  $name: $said"
-    [ "$said" = ok ] || failed=1
+# The standard output is wanted as a file.
+wrote() {
+    cmp -s "$1" "$work/out"
 }
 
 python3 - "$work" <<'P' || exit 1
@@ -111,5 +97,4 @@ knock 'a full disk' 1 "$work/none" 'standard output: No space' "$frames $work/re
 knock 'a closed standard output' 1 "$work/none" 'standard output' "$frames $work/reel >&-"
 knock 'a closed pipe' 0 "$work/none" 'standard output: Broken pipe' "bash -c '{ sleep 1; $frames $work/reel; } | true'"
 
-[ "$failed" -eq 0 ] && echo 'frame knocks: all as stated' || echo 'frame knocks: something differs'
-exit "$failed"
+knocked 'frame knocks'

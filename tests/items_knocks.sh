@@ -3,27 +3,13 @@
 # comma-separated values make of its lines. What it must print follows from docs/DECISIONS.md. Ends with status 1 where something differs.
 set -uo pipefail
 cd "$(dirname "${BASH_SOURCE[0]}")/.."
-work=$(mktemp -d)
-trap 'rm -rf "$work"' EXIT
-failed=0
-[ -x target/bin/pcd_items ] || rt check pcd_items >&2 || exit 1
+. tests/knock.sh
+built pcd_items
 items=bin/pcd-items
 
-# knock NAME STATUS LINES ERR COMMAND: runs the command; LINES is how many lines it must write to standard output, ERR what a line on standard error
-# must contain, or `none` where there must be none.
-knock() {
-    local name=$1 status=$2 lines=$3 err=$4 got said=ok
-    (eval "timeout 60 $5") >"$work/out" 2>"$work/err"
-    got=$?
-    [ "$got" -eq "$status" ] || said="ends with status $got, not $status"
-    [ "$(wc -l <"$work/out")" -eq "$lines" ] || said="writes to standard output: $(head -c 300 "$work/out")"
-    if [ "$err" = none ]; then
-        [ ! -s "$work/err" ] || said="writes to standard error: $(head -c 300 "$work/err")"
-    else
-        grep -q -- "$err" "$work/err" || said="writes to standard error: $(head -c 300 "$work/err")"
-    fi
-    echo "  $name: $said"
-    [ "$said" = ok ] || failed=1
+# The standard output is wanted by the number of its lines.
+wrote() {
+    [ "$(wc -l <"$work/out")" -eq "$1" ]
 }
 
 # The stored sample: nine frames, with 40, 30, 62 and 31 items twice and one line for the frame of no kind, and three bytes more.
@@ -73,5 +59,4 @@ for row in rows:
     assert bool(row["value"]) != bool(row["refusal"]), row
 P
 
-[ "$failed" -eq 0 ] && echo 'items knocks: all as stated' || echo 'items knocks: something differs'
-exit "$failed"
+knocked 'items knocks'

@@ -3,28 +3,14 @@
 # joined; inputs that cannot be read and outputs that cannot be written. Ends with status 1 where something differs.
 set -uo pipefail
 cd "$(dirname "${BASH_SOURCE[0]}")/.."
-work=$(mktemp -d)
-trap 'rm -rf "$work"' EXIT
-failed=0
-[ -x target/bin/pcd_map ] || rt check pcd_map >&2 || exit 1
+. tests/knock.sh
+built pcd_map
 map=bin/pcd-map
 reel=crates/pcd_map/data/reel
 
-# knock NAME STATUS OUT ERR COMMAND: runs the command; OUT is a file with the standard output wanted, ERR what a line on standard error must contain, or
-# `none` where there must be none.
-knock() {
-    local name=$1 status=$2 out=$3 err=$4 got said=ok
-    (eval "timeout 60 $5") >"$work/out" 2>"$work/err"
-    got=$?
-    [ "$got" -eq "$status" ] || said="ends with status $got, not $status"
-    cmp -s "$work/out" "$out" || said="writes to standard output: $(head -c 300 "$work/out")"
-    if [ "$err" = none ]; then
-        [ ! -s "$work/err" ] || said="writes to standard error: $(head -c 300 "$work/err")"
-    else
-        [ "$(grep -c -- "$err" "$work/err")" -eq 1 ] || said="writes to standard error: $(head -c 300 "$work/err")"
-    fi
-    echo "  $name: $said"
-    [ "$said" = ok ] || failed=1
+# The standard output is wanted as a file.
+wrote() {
+    cmp -s "$1" "$work/out"
 }
 
 : >"$work/none"
@@ -86,5 +72,4 @@ print("  joined in pairs:", "ok" if same else "differ")
 sys.exit(not same)
 P
 
-[ "$failed" -eq 0 ] && echo 'map knocks: all as stated' || echo 'map knocks: something differs'
-exit "$failed"
+knocked 'map knocks'
