@@ -11,7 +11,8 @@ use Rattle.cycle_input.proofs.gather.Statement.{statement}
 use Rattle.cycle_input.proofs.gather.Tie as tie
 
 abbrev Inv-loop : tie.InvT-loop
-Inv-loop program year area₀ before frame₀ frames₀ bits₀ t10 area frame frames bits = Going year bits area × (length area ≡ length area₀) × (length frame ≡ length frame₀) × (before ≤ frames)
+Inv-loop program year area₀ before frame₀ frames₀ bits₀ t10 area frame frames bits =
+    Going year bits area × (length area ≡ length area₀) × (length frame ≡ length frame₀) × (before ≤ frames)
 
 abbrev μ-loop : tie.MeasureT-loop
 μ-loop program year area₀ before frame₀ frames₀ bits₀ t10 area frame frames bits = 2 ^ 64 - frames

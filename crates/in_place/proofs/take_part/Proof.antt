@@ -78,7 +78,9 @@ accepted-requires c κs =
     let whole = fitting .before .before in
     let ordered = whole .before in
     let o = in-order-so ordered in
-    ((o .0, o .1), (ordered .before .in-order .ensures .1 (not-false _ (ordered .if1 .left)), whole .if2 .left, omega (arith, bytes-within (tally (ordered .before)) (o .1), fitting .if3 .left)))
+    let is-ordered = ordered .before .in-order .ensures .1 (not-false _ (ordered .if1 .left)) in
+    let few-bytes = bytes-within (tally (ordered .before)) (o .1) in
+    ((o .0, o .1), (is-ordered, whole .if2 .left, omega (arith, few-bytes, fitting .if3 .left)))
 
 same-length : tie.Need-same-length
 same-length c = search needs
