@@ -1,7 +1,8 @@
 // A streaming reader in safe Rust with the ideas for a fast proved one copied into it. A nominal group is SYNC and three equal copies, a
-// nominal cell such a group and five FILL: a cell or two groups are compared as one number, and the counts of a run are added once, from
-// how far it went. From the first bad copy on, groups of which two copies are equal are voted without branches (voted.rs). Outside groups, blocks of
-// 64 bytes without SYNC are passed over. All else goes a group at a time, or a byte at a time where a group lies across the end of a piece.
+// nominal cell such a group and five FILL: a cell or two groups are compared as one number, sixteen groups on whole vectors, and the counts
+// of a run are added once, from how far it went. From the first bad copy on, groups of which two copies are equal are voted without branches
+// (voted.rs). Outside groups, blocks of 64 bytes without SYNC are passed over. All else goes a group at a time, or a byte at a time where a
+// group lies across the end of a piece.
 
 use crate::bytewise::{byte, group};
 use crate::tally::{Tally, FILL, FRAME, FRAME_SYNC, SYNC};
@@ -9,6 +10,7 @@ use crate::voted;
 
 pub const GROUP: usize = 4;
 pub const CELL: usize = 9;
+const ROW: usize = 16;
 const BLOCK: usize = 64;
 
 // A group, two groups, the first eight bytes of a cell and eight FILL as numbers, first byte lowest, with 0 for each copy; x times COPIES is x
@@ -112,8 +114,10 @@ fn place(t: &mut Tally, piece: &[u8]) -> Run {
         let cells = copy_cells(&piece[run.bytes..], &mut places[run.words..]);
         run.pass(piece, CELL, cells);
     }
-    let groups = copy_pairs(&piece[run.bytes..], &mut places[run.words..]);
-    run.pass(piece, GROUP, groups);
+    if run.words < places.len() {
+        let groups = copy_groups(&piece[run.bytes..], &mut places[run.words..]);
+        run.pass(piece, GROUP, groups);
+    }
     // What is left: groups with FILL between them, of any other number.
     for place in &mut places[run.words..] {
         match piece.get(run.bytes..run.bytes + GROUP) {
@@ -140,7 +144,28 @@ fn copy_cells(piece: &[u8], places: &mut [u8]) -> usize {
     words
 }
 
-// The same of groups that follow each other, two at a time.
+// The same of groups that follow each other: sixteen at a time, then two. Not inlined: beside it the loop over cells is slower.
+#[inline(never)]
+fn copy_groups(piece: &[u8], places: &mut [u8]) -> usize {
+    let rows = copy_rows(piece, places);
+    rows + copy_pairs(&piece[GROUP * rows..], &mut places[rows..])
+}
+
+#[inline(always)]
+fn copy_rows(piece: &[u8], places: &mut [u8]) -> usize {
+    let mut words = 0;
+    for (places, row) in places.chunks_exact_mut(ROW).zip(piece.chunks_exact(ROW * GROUP)) {
+        if !is_row(row) {
+            break;
+        }
+        for (place, group) in places.iter_mut().zip(row.chunks_exact(GROUP)) {
+            *place = group[1];
+        }
+        words += ROW;
+    }
+    words
+}
+
 #[inline(always)]
 fn copy_pairs(piece: &[u8], places: &mut [u8]) -> usize {
     let mut words = 0;
@@ -158,6 +183,16 @@ fn copy_pairs(piece: &[u8], places: &mut [u8]) -> usize {
 #[inline(always)]
 fn is_group(g: &[u8]) -> bool {
     u32::from_le_bytes(g.try_into().unwrap()) == GROUP_BITS + COPIES * u32::from(g[1])
+}
+
+// The bits that are wrong in each group, in its SYNC and between neighbouring copies, are joined, so that it is done on whole vectors.
+#[inline(always)]
+fn is_row(row: &[u8]) -> bool {
+    let wrong = |g: &[u8]| {
+        let bits = u32::from_le_bytes(g.try_into().unwrap());
+        ((bits ^ GROUP_BITS) & 0xFF) | ((bits ^ (bits >> 8)) & 0xFF_FF00)
+    };
+    row.chunks_exact(GROUP).fold(0, |all, g| all | wrong(g)) == 0
 }
 
 #[inline(always)]

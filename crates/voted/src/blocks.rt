@@ -9,7 +9,7 @@ ghost use Rattle.base.specs.Lists.{one};
 ghost use Rattle.voted.specs.Lanes.{columns, Blank, Gathered, copied, Counts};
 ghost use Rattle.voted.specs.Copies.{copies, IsVoted};
 ghost use Rattle.voted.specs.Stretches.{Spaced, RunRoom, RunsOn};
-use crate::fill::FOUR_FILL;
+use crate::fill;
 use crate::placing::LAST_PLACE;
 use crate::placing::Run;
 use crate::votes;
@@ -38,7 +38,7 @@ fn is_spaced(piece: &[u8], at: usize) -> bool
     if piece[at] != SYNC {
         return false;
     }
-    if nominal::four(piece, at + 4) != FOUR_FILL {
+    if !fill::are_four(piece, at + 4) {
         return false;
     }
     piece[at + 8] == FILL

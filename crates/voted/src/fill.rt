@@ -3,11 +3,19 @@ ghost use mathlib.Core.Path.{_≡_};
 ghost use mathlib.Core.Bool.{true};
 ghost use Prim.Native.Nat.{_+_, _<_};
 ghost use lib.ListN.{length};
-ghost use Rattle.nominal.specs.Stretches.{PastFill};
+ghost use Rattle.nominal.specs.Stretches.{FourFill, PastFill};
 use base::format::FILL;
 use base::format::SYNC;
 
-pub(crate) const FOUR_FILL: u64 = 0x32323232;
+const FOUR_FILL: u64 = 0x32323232;
+
+// Whether four FILL stand here.
+pub(crate) fn are_four(piece: &[u8], at: usize) -> bool
+    requires { ⌜ at + 3 < length (now piece) ⌝ }
+    ensures { λ r. ⌜ (r ≡ true → FourFill (now (piece .entry)) at) ⌝ }
+{
+    nominal::number(piece[at], piece[at + 1], piece[at + 2], piece[at + 3]) == FOUR_FILL
+}
 
 // Whether five FILL stand here, and then SYNC.
 fn are_five(piece: &[u8], from: usize) -> bool
@@ -16,7 +24,7 @@ fn are_five(piece: &[u8], from: usize) -> bool
     if nominal::starts(piece, 6) <= from {
         return false;
     }
-    if nominal::four(piece, from) != FOUR_FILL {
+    if !are_four(piece, from) {
         return false;
     }
     if piece[from + 4] != FILL {

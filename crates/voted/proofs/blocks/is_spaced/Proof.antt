@@ -1,9 +1,8 @@
--- `voted::blocks::is_spaced` meets its contract: four FILL are one number. Assumes nothing.
+-- `voted::blocks::is_spaced` meets its contract: SYNC, four FILL, and the fifth. Assumes nothing.
 use mathlib.Core.Path.{sym}
 use mathlib.Core.Bool.{true≢false}
 use native.Mathlib.Omega.{arith}
-use borrow.Author.Tests.{eqb-true}
-use Rattle.nominal.proofs.Digits.{fill-of}
+use borrow.Author.Tests.{eqb-true, not-false}
 use borrow.Author.Needs.{needs}
 use Rattle.voted.proofs.blocks.is_spaced.Statement.{statement}
 use Rattle.voted.proofs.blocks.is_spaced.Tie as tie
@@ -14,11 +13,11 @@ shared-slice-read-if1 c = search needs
 returns : tie.Need-returns
 returns c = λ e. absurd (true≢false (sym e))
 
-add-four : tie.Need-add-four
-add-four c = search needs
+add-are-four : tie.Need-add-are-four
+add-are-four c = search needs
 
-four-requires : tie.Need-four-requires
-four-requires c κs = search needs
+are-four-requires : tie.Need-are-four-requires
+are-four-requires c κs = search needs
 
 returns-2 : tie.Need-returns-2
 returns-2 c = λ e. absurd (true≢false (sym e))
@@ -36,7 +35,7 @@ returns-3 c =
     let s = read .before .before .before in
     λ q. record {
       sync = record { inside = omega (arith, s .pre); is = read .if1 .left };
-      four = fill-of (filled .before .four .ensures) (omega (arith, s .pre)) (filled .if2 .left);
+      four = filled .before .are-four .ensures (not-false _ (filled .if2 .left));
       fifth = record { inside = s .pre; is = eqb-true _ _ q };
     }
 
@@ -46,8 +45,8 @@ is-spaced-spec =
     (tie.spec
     shared-slice-read-if1
     returns
-    add-four
-    four-requires
+    add-are-four
+    are-four-requires
     returns-2
     add-result
     shared-slice-read-result

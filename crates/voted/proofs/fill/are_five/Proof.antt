@@ -1,15 +1,14 @@
--- `voted::fill::are_five` meets its contract: four FILL are one number. Assumes nothing.
+-- `voted::fill::are_five` meets its contract: four FILL, the fifth, and SYNC. Assumes nothing.
 use mathlib.Core.Path.{refl, sym}
 use mathlib.Core.Bool.{true≢false}
 use Prim.Native.Nat.{_+_}
 use native.Mathlib.Omega.{arith}
-use borrow.Author.Tests.{eqb-true}
+use borrow.Author.Tests.{eqb-true, not-false}
 use lib.ListN.{getD}
 use denote.Ref.{now}
 use Rattle.base.specs.Format.{SYNC, FILL}
 use Rattle.quiet.specs.Quiet.{Byte}
 use Rattle.nominal.specs.Stretches.{FourFill}
-use Rattle.nominal.proofs.Digits.{fill-of}
 use Rattle.nominal.proofs.Joining.{nominal-join, four-fill, one-fill}
 use borrow.Author.Needs.{needs}
 use Rattle.voted.proofs.fill.are_five.Statement.{statement}
@@ -21,8 +20,8 @@ starts-requires c κs = search needs
 returns : tie.Need-returns
 returns c = λ e. absurd (true≢false (sym e))
 
-four-requires : tie.Need-four-requires
-four-requires c κs = search needs
+are-four-requires : tie.Need-are-four-requires
+are-four-requires c κs = search needs
 
 returns-2 : tie.Need-returns-2
 returns-2 c = λ e. absurd (true≢false (sym e))
@@ -50,7 +49,7 @@ returns-4 c =
     let a = read .before .before .before .before .args in
     let p = now (a .piece) in
     let from = a .from in
-    let four : FourFill p from = fill-of (read .four .ensures) (omega arith) (filled .if2 .left) in
+    let four : FourFill p from = read .are-four .ensures (not-false _ (filled .if2 .left)) in
     let fifth : Byte p (from + 4) FILL = record { inside = omega arith; is = last .if3 .left } in
     λ e. (
       record {
@@ -66,7 +65,7 @@ are-five-spec =
     (tie.spec
     starts-requires
     returns
-    four-requires
+    are-four-requires
     returns-2
     add-if3
     shared-slice-read-if3

@@ -1,0 +1,97 @@
+-- `nominal::placing::rows` meets its contract: the rows so far are stored, and one more at each turn. The position
+-- and the place go up together, so that one bound serves for both. Assumes nothing.
+use mathlib.Core.Path.{_≡_}
+use mathlib.Core.List.{List}
+use Prim.Native.Nat.{ℕ, _+_, _*_, _-_}
+use native.Mathlib.Omega.{arith}
+use denote.Ref.{now}
+use borrow.Author.Tests.{not-false}
+use Rattle.nominal.specs.Stretches.{Stored}
+use Rattle.nominal.proofs.Joining.{stored-none, stored-join}
+use Rattle.nominal.proofs.placing.rows.Statement.{statement}
+use Rattle.nominal.proofs.placing.rows.Tie as tie
+
+-- so many turns, and what they have stored
+record Rowed (piece : List ℕ) (from start : ℕ) (frame₀ frame : List ℕ) (at p : ℕ) : Type 0 where
+  turns : ℕ
+  at-is : at ≡ from + 64 * turns
+  place-is : p ≡ start + 16 * turns
+  stored : Stored piece from at start p frame₀ frame
+
+abbrev Inv-loop : tie.InvT-loop
+Inv-loop piece from start frame₀ stop at₀ p₀ frame at p = Rowed piece from start frame₀ frame at p
+
+abbrev μ-loop : tie.MeasureT-loop
+μ-loop piece from start frame₀ stop at₀ p₀ frame at p = stop - at
+
+add-starts : tie.Need-add-starts Inv-loop μ-loop
+add-starts c = omega arith
+
+starts-requires : tie.Need-starts-requires Inv-loop μ-loop
+starts-requires c κs = omega arith
+
+sub-stop-of : tie.Need-sub-stop-of Inv-loop μ-loop
+sub-stop-of c = omega arith
+
+mul-stop-of : tie.Need-mul-stop-of Inv-loop μ-loop
+mul-stop-of c = omega arith
+
+stop-of-requires : tie.Need-stop-of-requires Inv-loop μ-loop
+stop-of-requires c κs = omega arith
+
+loop-holds : tie.Need-loop-holds Inv-loop μ-loop
+loop-holds c =
+    let s = c .before .before .before in
+    record { turns = 0; at-is = omega arith; place-is = omega arith; stored = stored-none (s .args .from) (s .args .start) (now (s .args .frame)) }
+
+is-row-requires : tie.Need-is-row-requires Inv-loop μ-loop
+is-row-requires c κs = omega arith
+
+returns : tie.Need-returns Inv-loop μ-loop
+returns c = c .before .before .before .loop .inv .stored
+
+put-row-requires : tie.Need-put-row-requires Inv-loop μ-loop
+put-row-requires c κs = (c .before .before .is-row .ensures (not-false _ (c .before .if1 .left)), omega arith)
+
+add-p : tie.Need-add-p Inv-loop μ-loop
+add-p c = omega arith
+
+add-at : tie.Need-add-at Inv-loop μ-loop
+add-at c = omega arith
+
+loop-less : tie.Need-loop-less Inv-loop μ-loop
+loop-less c = omega arith
+
+loop-again : tie.Need-loop-again Inv-loop μ-loop
+loop-again c =
+    let k = c .before .before .before .before .before .loop in
+    record {
+      turns = k .inv .turns + 1;
+      at-is = omega arith;
+      place-is = omega arith;
+      stored = stored-join (k .inv .stored) (c .put-row .ensures);
+    }
+
+returns-2 : tie.Need-returns-2 Inv-loop μ-loop
+returns-2 c = c .before .loop .inv .stored
+
+pub rows-spec : {M : Type 1} → statement M
+rows-spec =
+    tie.close
+    (tie.spec
+    Inv-loop
+    μ-loop
+    add-starts
+    starts-requires
+    sub-stop-of
+    mul-stop-of
+    stop-of-requires
+    loop-holds
+    is-row-requires
+    returns
+    put-row-requires
+    add-p
+    add-at
+    loop-less
+    loop-again
+    returns-2)
