@@ -4,6 +4,7 @@ ghost use Prim.Native.Nat.{_<_};
 use lookup::Found;
 use vectors::field;
 use vectors::filled;
+use vectors::filled_numbers;
 use vectors::number;
 use vectors::put;
 
@@ -36,27 +37,13 @@ fn turn(instants: &mut [u64]) -> bool {
 
 fn run(operation: u8, instants: &mut [u64], value: u64) -> bool {
     match operation {
-        1 => return load(instants),
+        1 => return filled_numbers(instants),
         2 => return load_series(instants, value),
         _ => {
             put_found(lookup::find(instants, value));
             return true;
         }
     }
-}
-
-// Fills the list from the input.
-fn load(instants: &mut [u64]) -> bool {
-    let mut i: usize = 0;
-    while i < instants.len() {
-        let mut bytes = [0u8; 8];
-        if !filled(&mut bytes) {
-            return false;
-        }
-        instants[i] = number(&bytes);
-        i += 1;
-    }
-    true
 }
 
 // Fills the list with a series, whose step and modulus are read from the input.

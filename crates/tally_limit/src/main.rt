@@ -12,7 +12,7 @@ mod tally;
 ghost use Prim.Native.Nat.{_≤_};
 use labelling::Tally;
 use vectors::filled;
-use vectors::number;
+use vectors::filled_numbers;
 
 const MOST_LINE: usize = 160;
 
@@ -42,27 +42,13 @@ fn turn(kept: Tally) -> Turned {
     let mut numbers = [0u64; 39];
     let mut frame = [0u8; 128];
     let mut texts = [0u8; 192];
-    if !(load(&mut numbers) & filled(&mut frame) & filled(&mut texts)) {
+    if !(filled_numbers(&mut numbers) & filled(&mut frame) & filled(&mut texts)) {
         return Turned {
             more: false,
             tally: kept,
         };
     }
     made(numbers, frame, &texts, kept)
-}
-
-// Fills the list from the input.
-fn load(list: &mut [u64]) -> bool {
-    let mut i: usize = 0;
-    while i < list.len() {
-        let mut bytes = [0u8; 8];
-        if !filled(&mut bytes) {
-            return false;
-        }
-        list[i] = number(&bytes);
-        i += 1;
-    }
-    true
 }
 
 fn made(numbers: [u64; 39], frame: [u8; 128], texts: &[u8], kept: Tally) -> Turned {

@@ -4,6 +4,7 @@ use mathlib.Core.Path.{_≡_, refl, sym, ap}
 use mathlib.Core.Bool.{Bool, true, false}
 use mathlib.Core.List.{List, [], _∷_, _++_}
 use Prim.Native.Nat.{ℕ, zero, suc, _<_}
+use native.Mathlib.Nat.{mod-lt, mod-eq-of-lt}
 use native.Mathlib.Omega.{arith}
 use lib.Dec.{T, eqb, ltb, ltb→lt}
 use lib.ListN.{length, getD, length-append, List·getD-append}
@@ -95,7 +96,13 @@ count-is t k =
 
 reads-back : (t : Tally) → Sized t → tallyOf (numbersOf t) (t .frame) ≡ t
 reads-back t k =
-    rw (flag-read (t .framing .hunting), flag-read (t .framing .erasure), ← each-last (t .operators) (t .rule) (k .eight))
+    rw (
+      mod-eq-of-lt (k .first-byte),
+      mod-eq-of-lt (k .second-byte),
+      flag-read (t .framing .hunting),
+      flag-read (t .framing .erasure),
+      ← each-last (t .operators) (t .rule) (k .eight),
+    )
     (ap (λ (l : List ℕ). record {
       groups = t .groups;
       framing = t .framing;
@@ -109,8 +116,14 @@ reads-back t k =
 writes-back : (n frame : List ℕ) → length n ≡ numberCount → isTally n ≡ true → (numbersOf (tallyOf n frame) ≡ n) × Sized (tallyOf n frame)
 writes-back n frame h e =
     let p = passed n e in (
-      rw (flag-written (getD n 13 0) (p .hunting-flag), flag-written (getD n 15 0) (p .erasure-flag)) (sym (spelled n numberCount h)),
-      record { first-byte = p .first-byte; second-byte = p .second-byte; eight = refl },
+      rw (
+        mod-eq-of-lt (p .first-byte),
+        mod-eq-of-lt (p .second-byte),
+        flag-written (getD n 13 0) (p .hunting-flag),
+        flag-written (getD n 15 0) (p .erasure-flag),
+      )
+          (sym (spelled n numberCount h)),
+      record { first-byte = mod-lt (getD n 6 0) (omega arith); second-byte = mod-lt (getD n 7 0) (omega arith); eight = refl },
     )
 
 pub layout : Layout

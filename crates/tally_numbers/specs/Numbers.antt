@@ -2,7 +2,7 @@
 use mathlib.Core.Path.{_≡_}
 use mathlib.Core.Bool.{Bool, true, _&&_}
 use mathlib.Core.List.{List, [], _∷_, _++_}
-use Prim.Native.Nat.{ℕ, _<_}
+use Prim.Native.Nat.{ℕ, _<_, _%_}
 use lib.Dec.{eqb, ltb}
 use lib.ListN.{length, getD}
 use Rattle.base.specs.Lists.{one}
@@ -53,7 +53,7 @@ numberCount = 33
 unfoldable pub isTally : List ℕ → Bool
 isTally n = ltb (getD n 6 0) 256 && ltb (getD n 7 0) 256 && ltb (getD n 13 0) 2 && ltb (getD n 15 0) 2
 
--- the tally that they are the numbers of
+-- the tally that they are the numbers of; of numbers that are no tally's, the copies are cut to bytes
 abbrev pub weakOf : List ℕ → Weak
 weakOf n = record { first = getD n 20 0; second = getD n 21 0; third = getD n 22 0 }
 
@@ -66,8 +66,8 @@ groupsOf n = record {
   split = getD n 4 0;
   weak = weakOf n;
   «open» = getD n 5 0;
-  first = getD n 6 0;
-  second = getD n 7 0;
+  first = getD n 6 0 % 256;
+  second = getD n 7 0 % 256;
 }
 
 abbrev pub framingOf : List ℕ → Framing

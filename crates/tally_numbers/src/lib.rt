@@ -1,8 +1,5 @@
 // A tally as numbers: 33 of them and the frame's 128 bytes, for callers that cannot hold a tally. What is written is read back the same, both ways.
 ghost use mathlib.Core.Path.{_≡_};
-ghost use mathlib.Core.Bool.{true};
-ghost use Prim.Native.Nat.{_<_};
-ghost use lib.ListN.{getD};
 ghost use Rattle.base.specs.Lists.{one};
 ghost use Rattle.tally_numbers.specs.Numbers.{isTally, groupsOf, framingOf, runsOf, operatorsOf, tallyOf, countsOnly, numbersOf};
 use base::wide;
@@ -23,8 +20,8 @@ pub fn is_tally(n: &[u64; NUMBERS]) -> bool
     (n[6] < 256) & (n[7] < 256) & (n[13] < 2) & (n[15] < 2)
 }
 
+// Of numbers that are no tally's too, whose copies are then cut to bytes: `is_tally` tells them apart.
 pub fn tally_of(n: &[u64; NUMBERS], frame: &[u8; 128]) -> Tally
-    requires { ⌜ isTally (now n) ≡ true ⌝ }
     ensures { λ r. ⌜ r ≡ tallyOf (now (n .entry)) (now (frame .entry)) ⌝ }
 {
     let groups = groups_of(n);
@@ -102,7 +99,6 @@ pub fn put_counts(g: Groups, f: Framing, r: Runs, o: Operators, rule: u64, n: &m
 }
 
 pub fn groups_of(n: &[u64; NUMBERS]) -> Groups
-    requires { ⌜ (getD (now n) 6 0 < 256) × (getD (now n) 7 0 < 256) ⌝ }
     ensures { λ r. ⌜ r ≡ groupsOf (now (n .entry)) ⌝ }
 {
     Groups {
@@ -117,8 +113,8 @@ pub fn groups_of(n: &[u64; NUMBERS]) -> Groups
             third: n[22],
         },
         open: n[5],
-        first: n[6] as u8,
-        second: n[7] as u8,
+        first: (n[6] % 256) as u8,
+        second: (n[7] % 256) as u8,
     }
 }
 

@@ -5,6 +5,7 @@ mod sums;
 
 pub use input::MOST_RECORDS;
 pub use input::filled;
+pub use input::filled_numbers;
 pub use print::field;
 pub use print::fields;
 pub use print::put;

@@ -1,11 +1,10 @@
 -- `tally_numbers::tally_of` meets its contract: its parts are the layers', the operators' and the rule. Assumes nothing.
-use Rattle.tally_numbers.proofs.Numbers.{passed}
 use borrow.Author.Needs.{needs}
 use Rattle.tally_numbers.proofs.tally_of.Statement.{statement}
 use Rattle.tally_numbers.proofs.tally_of.Tie as tie
 
 groups-of-requires : tie.Need-groups-of-requires
-groups-of-requires c κs = let p = passed _ (c .pre) in (p .first-byte, p .second-byte)
+groups-of-requires c κs = search needs
 
 framing-of-requires : tie.Need-framing-of-requires
 framing-of-requires c κs = search needs

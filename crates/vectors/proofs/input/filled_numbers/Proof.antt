@@ -1,17 +1,17 @@
--- `lookup_vectors::load` is safe and ends: the list keeps its length, and what is left of it falls. Assumes nothing.
+-- `vectors::filled_numbers` is safe and ends: the list keeps its length, and what is left of it falls. Assumes nothing.
 use mathlib.Core.Path.{_≡_}
 use Prim.Native.Nat.{_-_}
 use native.Mathlib.Omega.{arith}
 use lib.ListN.{length, length-set}
 use borrow.Author.Needs.{needs}
-use Rattle.lookup_vectors.proofs.load.Statement.{statement}
-use Rattle.lookup_vectors.proofs.load.Tie as tie
+use Rattle.vectors.proofs.input.filled_numbers.Statement.{statement}
+use Rattle.vectors.proofs.input.filled_numbers.Tie as tie
 
 abbrev Inv-loop : tie.InvT-loop
-Inv-loop instants₀ i₀ instants i = length instants ≡ length instants₀
+Inv-loop list₀ i₀ list i = length list ≡ length list₀
 
 abbrev μ-loop : tie.MeasureT-loop
-μ-loop instants₀ i₀ instants i = length instants - i
+μ-loop list₀ i₀ list i = length list - i
 
 loop-holds : tie.Need-loop-holds Inv-loop μ-loop
 loop-holds c = omega arith
@@ -34,11 +34,11 @@ slice-aggregate-number c = search needs
 number-requires : tie.Need-number-requires Inv-loop μ-loop
 number-requires c κs = tt
 
-mul-instants : tie.Need-mul-instants Inv-loop μ-loop
-mul-instants c = search needs
+mul-list : tie.Need-mul-list Inv-loop μ-loop
+mul-list c = search needs
 
-slice-write-instants : tie.Need-slice-write-instants Inv-loop μ-loop
-slice-write-instants c = search needs
+slice-write-list : tie.Need-slice-write-list Inv-loop μ-loop
+slice-write-list c = search needs
 
 add-i : tie.Need-add-i Inv-loop μ-loop
 add-i c = search needs
@@ -55,8 +55,8 @@ same-length-2 c = search needs
 returns-2 : tie.Need-returns-2 Inv-loop μ-loop
 returns-2 c = tt
 
-pub load-spec : {M : Type 1} → statement M
-load-spec =
+pub filled-numbers-spec : {M : Type 1} → statement M
+filled-numbers-spec =
     tie.close
     (tie.spec
     Inv-loop
@@ -68,8 +68,8 @@ load-spec =
     returns
     slice-aggregate-number
     number-requires
-    mul-instants
-    slice-write-instants
+    mul-list
+    slice-write-list
     add-i
     loop-less
     loop-again
