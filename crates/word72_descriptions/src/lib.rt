@@ -3,7 +3,7 @@
 ghost use mathlib.Core.Path.{_≡_};
 ghost use Rattle.command.specs.Text.{Adds};
 ghost use Rattle.csv.specs.Fields.{csvField};
-ghost use Rattle.word72_csv.specs.Descriptions.{firstLine, lineOf, description};
+ghost use Rattle.word72_descriptions.specs.Descriptions.{firstLine, lineOf, description};
 
 const DESCRIPTIONS: [u8; 3706] = *b"\
 Euler Parameter 1 (EPA 1)
@@ -177,7 +177,7 @@ const LAST_ITEM: u64 = 61;
 const NO_LINE: usize = 163;
 
 // The description of an item of a kind, as a field; empty where the table has no such line.
-pub(crate) fn put_description(out: &mut [u8], at: usize, kind: u64, item: u64) -> usize
+pub fn put_description(out: &mut [u8], at: usize, kind: u64, item: u64) -> usize
     ensures { λ r. ⌜ Adds (now (out .entry)) at (csvField (description kind item)) (now (out .exit)) r ⌝ }
 {
     let table = &DESCRIPTIONS;

@@ -1,9 +1,9 @@
--- `word72_csv::descriptions::put_description` meets its contract: the field is the line of the table. Assumes nothing.
+-- `word72_descriptions::put_description` meets its contract: the field is the line of the table. Assumes nothing.
 use mathlib.Core.Path.{sym}
 use borrow.Author.Needs.{needs}
-use Rattle.word72_csv.specs.Descriptions.{description}
-use Rattle.word72_csv.proofs.descriptions.put_description.Statement.{statement}
-use Rattle.word72_csv.proofs.descriptions.put_description.Tie as tie
+use Rattle.word72_descriptions.specs.Descriptions.{description}
+use Rattle.word72_descriptions.proofs.put_description.Statement.{statement}
+use Rattle.word72_descriptions.proofs.put_description.Tie as tie
 
 line-of-requires : tie.Need-line-of-requires
 line-of-requires c κs = search needs

@@ -1,10 +1,10 @@
--- `word72_csv::descriptions::line_of` meets its contract. Assumes nothing.
+-- `word72_descriptions::line_of` meets its contract. Assumes nothing.
 use native.Mathlib.Omega.{arith}
 use borrow.Author.Needs.{needs}
 use borrow.Author.Tests.{lt-ltb, le-ltb}
-use Rattle.word72_csv.proofs.Laws.{first-small}
-use Rattle.word72_csv.proofs.descriptions.line_of.Statement.{statement}
-use Rattle.word72_csv.proofs.descriptions.line_of.Tie as tie
+use Rattle.word72_descriptions.proofs.Laws.{first-small}
+use Rattle.word72_descriptions.proofs.line_of.Statement.{statement}
+use Rattle.word72_descriptions.proofs.line_of.Tie as tie
 
 returns : tie.Need-returns
 returns c = rw (lt-ltb 61 _ (c .if1 .taken))

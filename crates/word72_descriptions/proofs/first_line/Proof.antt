@@ -1,8 +1,8 @@
--- `word72_csv::descriptions::first_line` meets its contract. Assumes nothing.
+-- `word72_descriptions::first_line` meets its contract. Assumes nothing.
 use borrow.Author.Needs.{needs}
-use Rattle.word72_csv.proofs.Laws.{no-first-line}
-use Rattle.word72_csv.proofs.descriptions.first_line.Statement.{statement}
-use Rattle.word72_csv.proofs.descriptions.first_line.Tie as tie
+use Rattle.word72_descriptions.proofs.Laws.{no-first-line}
+use Rattle.word72_descriptions.proofs.first_line.Statement.{statement}
+use Rattle.word72_descriptions.proofs.first_line.Tie as tie
 
 returns : tie.Need-returns
 returns c = search needs

@@ -1,4 +1,4 @@
--- `word72_csv::clock::put_padded` meets its contract: the digits are those that `io::decimal` gives, and as many zeros as are missing. Assumes nothing.
+-- `instant_text::put_padded` meets its contract: the digits are those that `io::decimal` gives, and as many zeros as are missing. Assumes nothing.
 use mathlib.Core.Path.{sym, ap, _∙_}
 use mathlib.Core.List.{List}
 use Prim.Native.Nat.{ℕ}
@@ -7,9 +7,9 @@ use lib.ListN.{length, replicate}
 use lib.Seq.{length-take-le}
 use borrow.Author.Needs.{needs}
 use Rattle.command.proofs.TextLaws.{adds-append, digits-are}
-use Rattle.word72_csv.specs.Values.{padded}
-use Rattle.word72_csv.proofs.clock.put_padded.Statement.{statement}
-use Rattle.word72_csv.proofs.clock.put_padded.Tie as tie
+use Rattle.instant_text.specs.Instants.{padded}
+use Rattle.instant_text.proofs.put_padded.Statement.{statement}
+use Rattle.instant_text.proofs.put_padded.Tie as tie
 
 decimal-requires : tie.Need-decimal-requires
 decimal-requires c κs = search needs
