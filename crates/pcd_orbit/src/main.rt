@@ -2,7 +2,6 @@
 // is the year; the first names the descriptor for the status. Status 1 where standard input cannot be read, or ends within a frame, and where a line
 // cannot be written.
 mod records;
-mod rows;
 
 const HEADER: [u8; 101] =
     *b"cycle,frame,record,item,unit,value,refusal,instant,year,day,hour,minute,second,millisecond,sixteenth\n";

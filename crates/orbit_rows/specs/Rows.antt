@@ -5,17 +5,19 @@ use Prim.Native.Nat.{ℕ, _/_, _%_}
 use Prim.Native.String.{String}
 use lib.Dec.{eqb}
 use lib.Ieee.{Float}
+use lib.IntN.{ℤ}
 use Rattle.base.specs.Lists.{concatMap}
 use Rattle.command.specs.Lines.{lineIn}
 use Rattle.command.specs.Text.{ascii, decimal}
+use Rattle.csv.specs.Fields.{numberField, integerText}
 use Rattle.double_text.specs.Decimal.{doubleText}
-use Rattle.pcd_orbit.specs.declared.rows.Row.{Row}
+use Rattle.orbit_rows.specs.declared.Row.{Row}
 
 -- ---- an instant: sixteenths of a millisecond, from which the fields of a time code are counted
 
 -- two numbers, each behind a comma
 abbrev pub pairText : ℕ → ℕ → List ℕ
-pairText a b = (ascii "," ++ decimal a) ++ (ascii "," ++ decimal b)
+pairText a b = numberField a ++ numberField b
 
 -- the instant, the year, the day, the hour
 abbrev pub dateText : ℕ → ℕ → List ℕ
@@ -32,7 +34,7 @@ whenText year instant = cond (eqb instant 0) (ascii ",,,,,,,,\n") ((dateText yea
 -- ---- a line
 
 abbrev pub refusalText : ℕ → List ℕ
-refusalText number = cond (eqb number 0) (ascii ",") (ascii "," ++ decimal number)
+refusalText number = cond (eqb number 0) (ascii ",") (numberField number)
 
 -- record, item and unit of each value, between commas
 abbrev pub names : List String
@@ -64,7 +66,7 @@ abbrev pub nameText : List ℕ
 nameText = concatMap (λ (s : String). ascii s ++ (0x0a ∷ [])) names
 
 abbrev pub startText : Row → ℕ → List ℕ
-startText row name = (decimal (row .cycle) ++ (ascii "," ++ decimal (row .frame))) ++ lineIn nameText name
+startText row name = (decimal (row .cycle) ++ numberField (row .frame)) ++ lineIn nameText name
 
 abbrev pub endText : Row → List ℕ
 endText row = refusalText (row .refusal) ++ whenText (row .year) (row .instant)
@@ -75,3 +77,6 @@ rowText row name value = cond (eqb (row .refusal) 0) ((startText row name ++ val
 
 abbrev pub doubleRow : Row → ℕ → Float → List ℕ
 doubleRow row name value = rowText row name (doubleText value)
+
+abbrev pub integerRow : Row → ℕ → ℤ → List ℕ
+integerRow row name value = rowText row name (integerText value)

@@ -1,8 +1,8 @@
--- `pcd_orbit::rows::put_end` meets its contract: one part behind the other. Assumes nothing.
+-- `orbit_rows::put_end` meets its contract: one part behind the other. Assumes nothing.
 use Rattle.command.proofs.TextLaws.{adds-append}
 use borrow.Author.Needs.{needs}
-use Rattle.pcd_orbit.proofs.rows.put_end.Statement.{statement}
-use Rattle.pcd_orbit.proofs.rows.put_end.Tie as tie
+use Rattle.orbit_rows.proofs.put_end.Statement.{statement}
+use Rattle.orbit_rows.proofs.put_end.Tie as tie
 
 cast-put-refusal : tie.Need-cast-put-refusal
 cast-put-refusal c = search needs

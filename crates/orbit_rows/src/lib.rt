@@ -1,13 +1,13 @@
-// A value of a record as a line of text.
+// A value of a record of a cycle as a line of comma-separated values.
 ghost use Rattle.command.specs.Text.{Adds};
-ghost use Rattle.io.specs.Counts.{Counts};
-ghost use Rattle.pcd_orbit.specs.Rows.{pairText, dateText, clockText, whenText, refusalText, startText, endText, doubleRow};
+ghost use Rattle.orbit_rows.specs.Rows.{pairText, dateText, clockText, whenText, refusalText, startText, endText, doubleRow, integerRow};
 use command::put;
-use command::put_field;
+use command::put_byte;
 use command::put_number;
+use csv::put_number_field;
 
 // Which record a value is of: its cycle and major frame; its refusal, 0 for none; its year, and its instant, 0 where it has none.
-pub(crate) struct Row {
+pub struct Row {
     pub cycle: u64,
     pub frame: u64,
     pub refusal: u8,
@@ -16,15 +16,15 @@ pub(crate) struct Row {
 }
 
 // The names of the values: record, item and unit.
-pub(crate) const EPHEMERIS: usize = 0;
+pub const EPHEMERIS: usize = 0;
 
-pub(crate) const ATTITUDE: usize = 6;
+pub const ATTITUDE: usize = 6;
 
-pub(crate) const TEMPERATURES: usize = 10;
+pub const TEMPERATURES: usize = 10;
 
-pub(crate) const GYRO_DRIFT: usize = 14;
+pub const GYRO_DRIFT: usize = 14;
 
-pub(crate) const CLOCK: usize = 17;
+pub const CLOCK: usize = 17;
 
 const NAMES: [u8; 446] = *b"\
 ,ephemeris,x,m,
@@ -60,7 +60,7 @@ const MINUTE: u64 = 960_000;
 const SECOND: u64 = 16_000;
 
 // The line of a value that is a double; of a refused record it has no value.
-pub(crate) fn put_double_row(out: &mut [u8], at: usize, row: Row, name: usize, value: f64) -> usize
+pub fn put_double_row(out: &mut [u8], at: usize, row: Row, name: usize, value: f64) -> usize
     ensures { λ r. ⌜ Adds (now (out .entry)) at (doubleRow row name value) (now (out .exit)) r ⌝ }
 {
     let begun = put_start(&mut *out, at, row, name);
@@ -71,9 +71,9 @@ pub(crate) fn put_double_row(out: &mut [u8], at: usize, row: Row, name: usize, v
     put_end(out, told, row)
 }
 
-// The line of a value that is an integer.
-pub(crate) fn put_integer_row(out: &mut [u8], at: usize, row: Row, name: usize, value: i64) -> usize
-    ensures { λ r. ⌜ Counts r (now (out .exit)) ⌝ }
+// The line of a value that is an integer; of a refused record it has no value.
+pub fn put_integer_row(out: &mut [u8], at: usize, row: Row, name: usize, value: i64) -> usize
+    ensures { λ r. ⌜ Adds (now (out .entry)) at (integerRow row name value) (now (out .exit)) r ⌝ }
 {
     let begun = put_start(&mut *out, at, row, name);
     if row.refusal != 0 {
@@ -88,7 +88,7 @@ fn put_start(out: &mut [u8], at: usize, row: Row, name: usize) -> usize
 {
     let names = &NAMES;
     let counted = put_number(&mut *out, at, row.cycle);
-    let framed = put_field(&mut *out, counted, b",", row.frame);
+    let framed = put_number_field(&mut *out, counted, row.frame);
     put(out, framed, command::line(names, name))
 }
 
@@ -103,9 +103,9 @@ fn put_refusal(out: &mut [u8], at: usize, number: u64) -> usize
     ensures { λ r. ⌜ Adds (now (out .entry)) at (refusalText number) (now (out .exit)) r ⌝ }
 {
     if number == 0 {
-        return put(out, at, b",");
+        return put_byte(out, at, b',');
     }
-    put_field(out, at, b",", number)
+    put_number_field(out, at, number)
 }
 
 // The instant as a number and in the fields of a time code; eight empty fields where there is none.
@@ -117,7 +117,7 @@ fn put_when(out: &mut [u8], at: usize, year: u64, instant: u64) -> usize
     }
     let dated = put_date(&mut *out, at, year, instant);
     let timed = put_clock(&mut *out, dated, instant);
-    put(out, timed, b"\n")
+    put_byte(out, timed, b'\n')
 }
 
 fn put_date(out: &mut [u8], at: usize, year: u64, instant: u64) -> usize
@@ -138,6 +138,6 @@ fn put_clock(out: &mut [u8], at: usize, instant: u64) -> usize
 fn put_pair(out: &mut [u8], at: usize, a: u64, b: u64) -> usize
     ensures { λ r. ⌜ Adds (now (out .entry)) at (pairText a b) (now (out .exit)) r ⌝ }
 {
-    let first = put_field(&mut *out, at, b",", a);
-    put_field(out, first, b",", b)
+    let first = put_number_field(&mut *out, at, a);
+    put_number_field(out, first, b)
 }

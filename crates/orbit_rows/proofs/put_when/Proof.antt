@@ -1,9 +1,9 @@
--- `pcd_orbit::rows::put_when` meets its contract: an instant of 0 is none. Assumes nothing.
+-- `orbit_rows::put_when` meets its contract: an instant of 0 is none. Assumes nothing.
 use borrow.Author.Tests.{ne-eqb}
 use Rattle.command.proofs.TextLaws.{adds-append}
 use borrow.Author.Needs.{needs}
-use Rattle.pcd_orbit.proofs.rows.put_when.Statement.{statement}
-use Rattle.pcd_orbit.proofs.rows.put_when.Tie as tie
+use Rattle.orbit_rows.proofs.put_when.Statement.{statement}
+use Rattle.orbit_rows.proofs.put_when.Tie as tie
 
 slice-aggregate-put : tie.Need-slice-aggregate-put
 slice-aggregate-put c = search needs
@@ -23,11 +23,8 @@ put-date-requires c κs = search needs
 put-clock-requires : tie.Need-put-clock-requires
 put-clock-requires c κs = search needs
 
-slice-aggregate-put-2 : tie.Need-slice-aggregate-put-2
-slice-aggregate-put-2 c = search needs
-
-put-requires-2 : tie.Need-put-requires-2
-put-requires-2 c κs = search needs
+put-byte-requires : tie.Need-put-byte-requires
+put-byte-requires c κs = search needs
 
 same-length-2 : tie.Need-same-length-2
 same-length-2 c = search needs
@@ -35,10 +32,10 @@ same-length-2 c = search needs
 returns-2 : tie.Need-returns-2
 returns-2 c =
     let last = c .before .before in
-    let timed = last .before .before .before .before .before in
+    let timed = last .before .before .before .before in
     let dated = timed .before .before .before .before in
     rw (ne-eqb _ 0 (dated .before .before .if1 .left))
-    (adds-append (adds-append (dated .put-date .ensures) (timed .put-clock .ensures)) (last .put2 .ensures))
+    (adds-append (adds-append (dated .put-date .ensures) (timed .put-clock .ensures)) (last .put-byte .ensures))
 
 pub put-when-spec : {M : Type 1} → statement M
 put-when-spec =
@@ -50,7 +47,6 @@ put-when-spec =
     returns
     put-date-requires
     put-clock-requires
-    slice-aggregate-put-2
-    put-requires-2
+    put-byte-requires
     same-length-2
     returns-2)

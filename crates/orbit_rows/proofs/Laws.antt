@@ -5,8 +5,8 @@ use mathlib.Core.List.{List, _++_}
 use Prim.Native.Nat.{ℕ}
 use borrow.Author.Tests.{eq-eqb, ne-eqb}
 use Rattle.command.specs.Text.{Adds}
-use Rattle.pcd_orbit.specs.declared.rows.Row.{Row}
-use Rattle.pcd_orbit.specs.Rows.{startText, endText, rowText}
+use Rattle.orbit_rows.specs.declared.Row.{Row}
+use Rattle.orbit_rows.specs.Rows.{startText, endText, rowText}
 
 pub text-is : {old new x y : List ℕ} {at r : ℕ} → x ≡ y → Adds old at y new r → Adds old at x new r
 text-is e a = rw e a

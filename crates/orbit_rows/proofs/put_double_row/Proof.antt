@@ -1,10 +1,10 @@
--- `pcd_orbit::rows::put_double_row` meets its contract: a refused record has no value. Assumes nothing.
+-- `orbit_rows::put_double_row` meets its contract: a refused record has no value. Assumes nothing.
 use Rattle.command.proofs.TextLaws.{adds-append}
 use Rattle.double_text.specs.Decimal.{doubleText}
-use Rattle.pcd_orbit.proofs.Laws.{text-is, refused-row, told-row}
+use Rattle.orbit_rows.proofs.Laws.{text-is, refused-row, told-row}
 use borrow.Author.Needs.{needs}
-use Rattle.pcd_orbit.proofs.rows.put_double_row.Statement.{statement}
-use Rattle.pcd_orbit.proofs.rows.put_double_row.Tie as tie
+use Rattle.orbit_rows.proofs.put_double_row.Statement.{statement}
+use Rattle.orbit_rows.proofs.put_double_row.Tie as tie
 
 put-start-requires : tie.Need-put-start-requires
 put-start-requires c κs = search needs

@@ -1,18 +1,15 @@
--- `pcd_orbit::rows::put_start` meets its contract: one part behind the other. Assumes nothing.
+-- `orbit_rows::put_start` meets its contract: one part behind the other. Assumes nothing.
 use mathlib.Core.Path.{sym}
 use Rattle.command.proofs.TextLaws.{adds-append}
 use borrow.Author.Needs.{needs}
-use Rattle.pcd_orbit.proofs.rows.put_start.Statement.{statement}
-use Rattle.pcd_orbit.proofs.rows.put_start.Tie as tie
+use Rattle.orbit_rows.proofs.put_start.Statement.{statement}
+use Rattle.orbit_rows.proofs.put_start.Tie as tie
 
 put-number-requires : tie.Need-put-number-requires
 put-number-requires c κs = search needs
 
-slice-aggregate-put-field : tie.Need-slice-aggregate-put-field
-slice-aggregate-put-field c = search needs
-
-put-field-requires : tie.Need-put-field-requires
-put-field-requires c κs = search needs
+put-number-field-requires : tie.Need-put-number-field-requires
+put-number-field-requires c κs = search needs
 
 line-requires : tie.Need-line-requires
 line-requires c κs = search needs
@@ -28,16 +25,15 @@ returns c =
     let last = c .before .before in
     let named = last .before in
     let framed = named .before .before .before .before .before in
-    let counted = framed .before .before .before .before .before in
-    rw (sym (named .line .ensures)) (adds-append (adds-append (counted .put-number .ensures) (framed .put-field .ensures)) (last .put .ensures))
+    let counted = framed .before .before .before .before in
+    rw (sym (named .line .ensures)) (adds-append (adds-append (counted .put-number .ensures) (framed .put-number-field .ensures)) (last .put .ensures))
 
 pub put-start-spec : {M : Type 1} → statement M
 put-start-spec =
     tie.close
     (tie.spec
     put-number-requires
-    slice-aggregate-put-field
-    put-field-requires
+    put-number-field-requires
     line-requires
     put-requires
     same-length
