@@ -3,8 +3,9 @@ use mathlib.Core.Path.{_≡_, sym, _∙_}
 use mathlib.Core.Bool.{Bool, true, false}
 use Prim.Native.Nat.{ℕ, _+_, _*_, _-_, _≤_, _<_}
 use native.Mathlib.Omega.{arith}
-use Rattle.pcd_book.specs.declared.gathering.Shelf.{Shelf}
-use Rattle.pcd_book.specs.Shelves.{Roomy, Fits, EndPromise, TurnPromise, leftOut, addedTo}
+use Rattle.book_shelf.specs.declared.Shelf.{Shelf}
+use Rattle.book_shelf.specs.Shelves.{EndPromise, leftOut, addedTo}
+use Rattle.pcd_book.specs.Shelves.{Roomy, Fits, TurnPromise}
 
 clash : {A : Type 0} → true ≡ false → A
 clash e = let z : _≡_ {A = ℕ} 0 1 = cc in absurd (omega arith)
@@ -23,7 +24,7 @@ module _ {n : ℕ} {s r : Shelf} (f : Fits n s) where
   pub left-turn : {k : ℕ} → r ≡ leftOut s k → s .frames < k → TurnPromise n s r
   left-turn e l = rw e (record { fits = record { roomy = f .roomy; one-more = f .one-more }; further = λ m. l })
 
-  pub added-turn : {k i : ℕ} → r ≡ addedTo s k i → 65536 ≤ n - (65536 * s .cycles + 65536) → s .frames < k → TurnPromise n s r
+  pub added-turn : {k i : ℕ} → r ≡ addedTo s (s .cycles + 1) k i → 65536 ≤ n - (65536 * s .cycles + 65536) → s .frames < k → TurnPromise n s r
   added-turn e h l = rw e (record { fits = record { roomy = f .roomy; one-more = omega (arith, f .one-more) }; further = λ m. l })
 
 -- the rooms of the program

@@ -1,15 +1,14 @@
 -- What is gathered for a book, and what is made of it. Definitions only.
 use mathlib.Core.Path.{_≡_}
-use mathlib.Core.Bool.{Bool, true, false, _||_}
+use mathlib.Core.Bool.{true}
 use mathlib.Core.List.{List, _++_}
 use Prim.Native.Nat.{ℕ, _+_, _*_, _≤_, _<_}
-use lib.Dec.{eqb, ltb}
 use Rattle.book.specs.Faults.{viewRefusal}
 use Rattle.book.specs.Layout.{yearSaid, cyclesOf}
 use Rattle.book_writer.specs.Writing.{bodiesIn}
 use Rattle.command.specs.Text.{ascii, decimal}
 use Rattle.cycle.specs.Cycle.{cycleLength}
-use Rattle.pcd_book.specs.declared.gathering.Shelf.{Shelf}
+use Rattle.book_shelf.specs.declared.Shelf.{Shelf}
 
 -- ---- rooms of so many bytes
 
@@ -22,23 +21,6 @@ pub record Roomy (size : ℕ) : Type 0 where
 pub record Fits (size : ℕ) (s : Shelf) : Type 0 where
   pub roomy : Roomy size
   pub one-more : cycleLength * (s .cycles + 1) ≤ size
-
--- ---- what a cycle does
-
--- the first cycle, or one later than the last that is gathered
-abbrev pub risesAbove : Shelf → ℕ → Bool
-risesAbove s instant = eqb (s .cycles) 0 || ltb (s .last) instant
-
-abbrev pub leftOut : Shelf → ℕ → Shelf
-leftOut s frames = record { cycles = s .cycles; last = s .last; frames = frames; more = true; all = false; failed = false }
-
-abbrev pub addedTo : Shelf → ℕ → ℕ → Shelf
-addedTo s frames instant = record { cycles = s .cycles + 1; last = instant; frames = frames; more = true; all = s .all; failed = false }
-
--- none comes
-pub record EndPromise (s r : Shelf) : Type 0 where
-  pub same : r .cycles ≡ s .cycles
-  pub over : r .more ≡ false
 
 -- a turn keeps a room for the next; where more may come, more frames were read
 pub record TurnPromise (size : ℕ) (s r : Shelf) : Type 0 where

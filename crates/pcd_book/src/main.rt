@@ -62,7 +62,7 @@ fn in_small_rooms(i: usize) -> bool {
 fn gather_small(i: usize, bodies: &mut [u8]) -> bool
     requires { ⌜ Roomy (length (now bodies)) ⌝ }
 {
-    let year = cycle_input::year_at(b"pcd-book", i);
+    let year = year_argument::year_at(b"pcd-book", i);
     if year == 0 {
         return false;
     }
@@ -89,7 +89,7 @@ fn in_large_rooms(i: usize) -> bool {
 fn gather_large(i: usize, bodies: &mut [u8]) -> bool
     requires { ⌜ Roomy (length (now bodies)) ⌝ }
 {
-    let year = cycle_input::year_at(b"pcd-book", i);
+    let year = year_argument::year_at(b"pcd-book", i);
     if year == 0 {
         return false;
     }

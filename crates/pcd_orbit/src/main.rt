@@ -7,7 +7,7 @@ const HEADER: [u8; 101] =
     *b"cycle,frame,record,item,unit,value,refusal,instant,year,day,hour,minute,second,millisecond,sixteenth\n";
 
 fn main() {
-    let year = cycle_input::year_at(b"pcd-orbit", 2);
+    let year = year_argument::year_at(b"pcd-orbit", 2);
     if write_all(year) {
         command::end(0);
         return;

@@ -87,6 +87,9 @@ returns-3 c =
     let asked = read .before .before .before .before in
     left-turn (asked .before .before .before .before .before .pre) (c .left-out2 .ensures) (asked .next-cycle .ensures .further (not-false _ (read .if1 .left)))
 
+add-added : tie.Need-add-added
+add-added c = search needs
+
 added-requires : tie.Need-added-requires
 added-requires c κs = search needs
 
@@ -95,11 +98,11 @@ same-length-4 c = search needs
 
 returns-4 : tie.Need-returns-4
 returns-4 c =
-    let read = c .before .before .before .before .before .before .before in
+    let read = c .before .before .before .before .before .before .before .before in
     let asked = read .before .before .before .before in
     let start = asked .before .before .before .before .before in
     let further = asked .next-cycle .ensures .further (not-false _ (read .if1 .left)) in
-    added-turn (start .pre) (c .added .ensures) (omega (arith, c .before .if3 .left)) further
+    added-turn (start .pre) (c .added .ensures) (omega (arith, c .before .before .if3 .left)) further
 
 pub turn-spec : {M : Type 1} → statement M
 turn-spec =
@@ -130,6 +133,7 @@ turn-spec =
     left-out-requires-2
     same-length-3
     returns-3
+    add-added
     added-requires
     same-length-4
     returns-4)

@@ -1,7 +1,7 @@
--- `pcd_book::gathering::rises` meets its contract: the first always does. Assumes nothing.
+-- `book_shelf::rises` meets its contract: the first always does. Assumes nothing.
 use borrow.Author.Tests.{ne-eqb}
-use Rattle.pcd_book.proofs.gathering.rises.Statement.{statement}
-use Rattle.pcd_book.proofs.gathering.rises.Tie as tie
+use Rattle.book_shelf.proofs.rises.Statement.{statement}
+use Rattle.book_shelf.proofs.rises.Tie as tie
 
 returns : tie.Need-returns
 returns c = rw (c .if1 .taken)
