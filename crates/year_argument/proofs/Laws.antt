@@ -13,6 +13,12 @@ spanned : (n : ℕ) (b : Bool) → inSpan n ≡ b → YearPromise (cond b n 0)
 spanned n true e = record { in-span = λ z. e }
 spanned n false e = record { in-span = λ z. absurd (z refl) }
 
+pub in-span-year : (n : ℕ) → inSpan n ≡ true → n ≡ yearOf (Value n)
+in-span-year n e = rw e
+
+pub outside-year : (n : ℕ) → inSpan n ≡ false → 0 ≡ yearOf (Value n)
+outside-year n e = rw e
+
 pub named : (p : Parsed) → YearPromise (yearOf p)
 named (Value n) = spanned n (inSpan n) refl
 named NotANumber = record { in-span = λ z. absurd (z refl) }

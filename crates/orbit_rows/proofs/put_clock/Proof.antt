@@ -14,7 +14,10 @@ same-length : tie.Need-same-length
 same-length c = search needs
 
 returns : tie.Need-returns
-returns c = search (needs, adds-append)
+returns c =
+    let second = c .before .before in
+    let first = second .before .before .before .before in
+    adds-append (first .put-pair .ensures) (second .put-pair2 .ensures)
 
 pub put-clock-spec : {M : Type 1} → statement M
 put-clock-spec = tie.close (tie.spec put-pair-requires put-pair-requires-2 same-length returns)

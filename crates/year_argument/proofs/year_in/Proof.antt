@@ -2,6 +2,7 @@
 use mathlib.Core.Path.{sym, _∙_}
 use borrow.Author.Needs.{needs}
 use Rattle.year_argument.specs.Years.{yearIn}
+use Rattle.year_argument.proofs.Laws.{in-span-year, outside-year}
 use Rattle.year_argument.proofs.year_in.Statement.{statement}
 use Rattle.year_argument.proofs.year_in.Tie as tie
 
@@ -19,7 +20,7 @@ unfolding yearIn
 returns c =
     let found = c .before .before .before in
     let named = sym (found .before .before .number .ensures) ∙ found .year .given .1 in
-    rw (named, sym (c .before .in-span .ensures) ∙ c .if1 .taken)
+    rw named (in-span-year _ (sym (c .before .in-span .ensures) ∙ c .if1 .taken))
 
 say-no-year-requires : tie.Need-say-no-year-requires
 say-no-year-requires c κs = search needs
@@ -30,7 +31,7 @@ returns-2 c =
     let tested = c .before in
     let found = tested .before .before .before in
     let named = sym (found .before .before .number .ensures) ∙ found .year .given .1 in
-    rw (named, sym (tested .before .in-span .ensures) ∙ tested .if1 .left)
+    rw named (outside-year _ (sym (tested .before .in-span .ensures) ∙ tested .if1 .left))
 
 enum-told : tie.Need-enum-told
 enum-told c = search needs
