@@ -18,4 +18,5 @@ addedTo s cycles frames instant = record { cycles = cycles; last = instant; fram
 -- none comes
 pub record EndPromise (s r : Shelf) : Type 0 where
   pub same : r .cycles ≡ s .cycles
+  pub last-same : r .last ≡ s .last
   pub over : r .more ≡ false

@@ -2,12 +2,14 @@
 use mathlib.Core.Path.{_≡_}
 use mathlib.Core.Bool.{true}
 use mathlib.Core.List.{List, _++_}
-use Prim.Native.Nat.{ℕ, _+_, _*_, _≤_, _<_}
+use Prim.Native.Nat.{ℕ, _+_, _-_, _*_, _≤_, _<_}
+use lib.ListN.{length, take}
+use Rattle.base.specs.Rows.{row}
 use Rattle.book.specs.Faults.{viewRefusal}
 use Rattle.book.specs.Layout.{yearSaid, cyclesOf}
 use Rattle.book_writer.specs.Writing.{bodiesIn}
 use Rattle.command.specs.Text.{ascii, decimal}
-use Rattle.cycle.specs.Cycle.{cycleLength}
+use Rattle.cycle.specs.Cycle.{cycleLength, isCycle, instantOf}
 use Rattle.book_shelf.specs.declared.Shelf.{Shelf}
 
 -- ---- rooms of so many bytes
@@ -22,10 +24,25 @@ pub record Fits (size : ℕ) (s : Shelf) : Type 0 where
   pub roomy : Roomy size
   pub one-more : cycleLength * (s .cycles + 1) ≤ size
 
--- a turn keeps a room for the next; where more may come, more frames were read
-pub record TurnPromise (size : ℕ) (s r : Shelf) : Type 0 where
-  pub fits : Fits size r
+-- ---- what is gathered
+
+-- the cycles lie end to end from the start of the room on: each is one of the year, and their instants rise
+pub record Kept (y : ℕ) (room : List ℕ) (s : Shelf) : Type 0 where
+  pub each-cycle : (i : ℕ) → i < s .cycles → isCycle y (row cycleLength room i) ≡ true
+  pub rise : (i : ℕ) → 0 < i → i < s .cycles → instantOf y (row cycleLength room (i - 1)) < instantOf y (row cycleLength room i)
+  pub last-is : 0 < s .cycles → s .last ≡ instantOf y (row cycleLength room (s .cycles - 1))
+
+-- a turn keeps a room for the next; where more may come, more frames were read; what is gathered stays, and what is added is such a cycle
+pub record TurnPromise (y : ℕ) (old new : List ℕ) (s r : Shelf) : Type 0 where
+  pub fits : Fits (length old) r
   pub further : r .more ≡ true → s .frames < r .frames
+  pub stays : take (cycleLength * s .cycles) new ≡ take (cycleLength * s .cycles) old
+  pub kept : Kept y old s → Kept y new r
+
+-- all turns
+pub record GatherPromise (y : ℕ) (old new : List ℕ) (r : Shelf) : Type 0 where
+  pub fits : Fits (length old) r
+  pub kept : Kept y new r
 
 -- ---- the book
 

@@ -1,7 +1,7 @@
 // The bodies of a book, one behind the other, as the cycles of standard input come.
 ghost use lib.ListN.{length};
 ghost use Rattle.command.specs.Text.{Adds};
-ghost use Rattle.pcd_book.specs.Shelves.{Roomy, Fits, TurnPromise, roomText};
+ghost use Rattle.pcd_book.specs.Shelves.{Roomy, Fits, TurnPromise, GatherPromise, roomText};
 use book_shelf::Shelf;
 use command::put;
 use command::put_field;
@@ -16,7 +16,7 @@ const FRAMES: u64 = 4;
 // are held. A line says what is left out.
 pub(crate) fn gather(year: u64, bodies: &mut [u8]) -> Shelf
     requires { ⌜ Roomy (length (now bodies)) ⌝ }
-    ensures { λ r. ⌜ Fits (length (now (bodies .entry))) r ⌝ }
+    ensures { λ r. ⌜ GatherPromise year (now (bodies .entry)) (now (bodies .exit)) r ⌝ }
 {
     let mut shelf = book_shelf::begun();
     loop {
@@ -30,7 +30,7 @@ pub(crate) fn gather(year: u64, bodies: &mut [u8]) -> Shelf
 // The next cycle.
 fn turn(year: u64, bodies: &mut [u8], s: Shelf) -> Shelf
     requires { ⌜ Fits (length (now bodies)) s ⌝ }
-    ensures { λ r. ⌜ TurnPromise (length (now (bodies .entry))) s r ⌝ }
+    ensures { λ r. ⌜ TurnPromise year (now (bodies .entry)) (now (bodies .exit)) s r ⌝ }
 {
     let room = bodies.len();
     let start = CYCLE * s.cycles;
