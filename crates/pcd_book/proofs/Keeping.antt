@@ -24,7 +24,7 @@ front-row i a h =
     sym (ap (drop s) (take-add s 65536 a) ∙ drop-at (take s a) (take 65536 (drop s a)) s (length-take-le s a h))
 
 -- the rows of equal fronts are equal
-same-row : (k i : ℕ) (a b : List ℕ) → i < k → 65536 * k ≤ length a → 65536 * k ≤ length b → take (65536 * k) a ≡ take (65536 * k) b
+pub same-row : (k i : ℕ) (a b : List ℕ) → i < k → 65536 * k ≤ length a → 65536 * k ≤ length b → take (65536 * k) a ≡ take (65536 * k) b
     → row 65536 a i ≡ row 65536 b i
 same-row k i a b h la lb e =
     let m = 65536 * i + 65536 in

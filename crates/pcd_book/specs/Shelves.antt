@@ -1,15 +1,17 @@
 -- What is gathered for a book, and what is made of it. Definitions only.
 use mathlib.Core.Path.{_≡_}
-use mathlib.Core.Bool.{true}
+use mathlib.Core.Bool.{true, cond}
 use mathlib.Core.List.{List, _++_}
 use Prim.Native.Nat.{ℕ, _+_, _-_, _*_, _≤_, _<_}
+use lib.Dec.{ltb}
 use lib.ListN.{length, take}
 use Rattle.base.specs.Rows.{row}
 use Rattle.book.specs.Faults.{viewRefusal}
-use Rattle.book.specs.Layout.{yearSaid, cyclesOf}
+use Rattle.book.specs.Layout.{yearSaid, cyclesOf, bookLength}
 use Rattle.book_writer.specs.Writing.{bodiesIn}
 use Rattle.command.specs.Text.{ascii, decimal}
 use Rattle.cycle.specs.Cycle.{cycleLength, isCycle, instantOf}
+use Rattle.time_code.specs.Calendar.{inSpan}
 use Rattle.book_shelf.specs.declared.Shelf.{Shelf}
 
 -- ---- rooms of so many bytes
@@ -46,11 +48,29 @@ pub record GatherPromise (y : ℕ) (old new : List ℕ) (r : Shelf) : Type 0 whe
 
 -- ---- the book
 
--- where it is not refused it is accepted, and it has this year and these cycles
-pub record MadePromise (y : ℕ) (bodies out : List ℕ) (r : ℕ) : Type 0 where
-  pub accepted : r ≡ 0 → viewRefusal out ≡ 0
-  pub year-is : r ≡ 0 → yearSaid out ≡ y
-  pub cycles-are : r ≡ 0 → cyclesOf out ≡ bodiesIn bodies
+-- so many whole cycles of a year, 255 at most, that rise
+pub record Bound (y : ℕ) (bodies : List ℕ) : Type 0 where
+  pub year-in : inSpan y ≡ true
+  pub count : ℕ
+  pub few : count ≤ 255
+  pub length-is : length bodies ≡ cycleLength * count
+  pub each-cycle : (i : ℕ) → i < count → isCycle y (row cycleLength bodies i) ≡ true
+  pub rise : (i : ℕ) → 0 < i → i < count → instantOf y (row cycleLength bodies (i - 1)) < instantOf y (row cycleLength bodies i)
+
+-- and a room of their book's length
+pub record Writable (y : ℕ) (bodies out : List ℕ) : Type 0 where
+  pub bound : Bound y bodies
+  pub room-is : length out ≡ bookLength (bound .count)
+
+-- how long a book of so many cycles is, 0 where there is none
+abbrev pub roomFor : ℕ → ℕ
+roomFor n = cond (ltb 255 n) 0 (bookLength n)
+
+-- the book is never refused: it is accepted, and it has this year and these cycles
+pub record MadePromise (y : ℕ) (bodies out : List ℕ) : Type 0 where
+  pub accepted : viewRefusal out ≡ 0
+  pub year-is : yearSaid out ≡ y
+  pub cycles-are : cyclesOf out ≡ bodiesIn bodies
 
 -- ---- text
 
