@@ -1,4 +1,5 @@
--- A line of the records' values (docs/orbit.md): cycle, major frame, record, item, unit, value or refusal number, instant and its fields. Definitions only.
+-- A line of the records' values (docs/orbit.md): cycle, major frame, record, item, unit, value or refusal number, instant and its fields.
+-- Definitions only.
 use mathlib.Core.Bool.{cond}
 use mathlib.Core.List.{List, [], _∷_, _++_}
 use Prim.Native.Nat.{ℕ, _/_, _%_}

@@ -51,7 +51,7 @@ module _ (y : ℕ) (bodies : List ℕ) (b : Bound y bodies) where
 
   good-instant : (i : ℕ) → i < b .count → badInstant said i ≡ false
   unfolding badInstant
-  good-instant i h = rw (eq-eqb (instantOf y (getD (bodiesIn bodies) i [])) (instantOf y (getD (bodiesIn bodies) i [])) refl, risen i (ltb 0 i) refl h)
+  good-instant i h = rw (eq-eqb (said .instant i) (said .instant i) refl, risen i (ltb 0 i) refl h)
 
   good-offset : (i : ℕ) → badOffset said i ≡ false
   unfolding badOffset

@@ -47,7 +47,8 @@ module _ (k : ℕ) (old part : List ℕ) (room : 65536 * k + 65536 ≤ length ol
       ap (take 65536) (drop-at (take (65536 * k) old) _ (65536 * k) (length-take-le (65536 * k) old (omega arith))) ∙ take-at part _ 65536 len
 
 -- ---- what is gathered
-module _ {y : ℕ} {old : List ℕ} {s : Shelf} (new : List ℕ) (kept : Kept y old s) (room : 65536 * s .cycles ≤ length old) (size : length new ≡ length old)
+module _ {y : ℕ} {old : List ℕ} {s : Shelf} (new : List ℕ) (kept : Kept y old s) (room : 65536 * s .cycles ≤ length old)
+    (size : length new ≡ length old)
     (stays : take (65536 * s .cycles) new ≡ take (65536 * s .cycles) old)
   where
     same : (i : ℕ) → i < s .cycles → row 65536 new i ≡ row 65536 old i

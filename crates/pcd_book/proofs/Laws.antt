@@ -61,7 +61,8 @@ module _ (y : ℕ) (old part : List ℕ) (s r : Shelf) (f : Fits (length old) s)
 
     -- the part is a cycle of the year, later than the last that is gathered
     module _ (t : ℕ) (is-cycle : isCycle y part ≡ true)
-        (its : t ≡ instantOf y (take (65536 * s .cycles + 65536 - 65536 * s .cycles) (drop (65536 * s .cycles) (after (s .cycles) old part)))) (rises : risesAbove s t ≡ true)
+        (its : t ≡ instantOf y (take (65536 * s .cycles + 65536 - 65536 * s .cycles) (drop (65536 * s .cycles) (after (s .cycles) old part))))
+        (rises : risesAbove s t ≡ true)
       where
         wide : length part ≡ 65536
         wide =

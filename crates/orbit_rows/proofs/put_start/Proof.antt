@@ -26,7 +26,8 @@ returns c =
     let named = last .before in
     let framed = named .before .before .before .before .before in
     let counted = framed .before .before .before .before in
-    rw (sym (named .line .ensures)) (adds-append (adds-append (counted .put-number .ensures) (framed .put-number-field .ensures)) (last .put .ensures))
+    let numbered = adds-append (counted .put-number .ensures) (framed .put-number-field .ensures) in
+    rw (sym (named .line .ensures)) (adds-append numbered (last .put .ensures))
 
 pub put-start-spec : {M : Type 1} → statement M
 put-start-spec =

@@ -29,7 +29,8 @@ returns c =
     let numbered = placed .before .before .before .before in
     let kinded = numbered .before .before .before .before in
     let framed = kinded .before .before .before .before in
-    let to-number = adds-append (adds-append (framed .put-number .ensures) (kinded .put-number-field .ensures)) (numbered .put-number-field2 .ensures) in
+    let to-kind = adds-append (framed .put-number .ensures) (kinded .put-number-field .ensures) in
+    let to-number = adds-append to-kind (numbered .put-number-field2 .ensures) in
     adds-append (adds-append to-number (placed .put-number-field3 .ensures)) (sized .put-number-field4 .ensures)
 
 pub put-place-spec : {M : Type 1} → statement M
