@@ -26,6 +26,10 @@ doubled text = concatMap quoted text
 abbrev pub csvField : List ℕ → List ℕ
 csvField text = cond (isPlain text) text ((0x22 ∷ []) ++ doubled text ++ (0x22 ∷ []))
 
+-- a number behind a comma
+abbrev pub numberField : ℕ → List ℕ
+numberField n = ascii "," ++ decimal n
+
 abbrev pub integerText : ℤ → List ℕ
 integerText (pos n) = decimal n
 integerText (negsuc n) = ascii "-" ++ decimal (suc n)

@@ -2,7 +2,7 @@
 ghost use mathlib.Core.Path.{_≡_};
 ghost use lib.IntN.{natAbs};
 ghost use Rattle.command.specs.Text.{Adds};
-ghost use Rattle.csv.specs.Fields.{isSpecial, isPlain, doubled, quoted, csvField, integerText};
+ghost use Rattle.csv.specs.Fields.{isSpecial, isPlain, doubled, quoted, csvField, numberField, integerText};
 use command::put;
 use command::put_byte;
 use command::put_field;
@@ -18,6 +18,14 @@ pub fn put_csv_field(out: &mut [u8], at: usize, text: &[u8]) -> usize
     let begun = put_byte(&mut *out, at, b'"');
     let inside = put_doubled(&mut *out, begun, text);
     put_byte(out, inside, b'"')
+}
+
+// A number as a field behind a comma.
+pub fn put_number_field(out: &mut [u8], at: usize, n: u64) -> usize
+    ensures { λ r. ⌜ Adds (now (out .entry)) at (numberField n) (now (out .exit)) r ⌝ }
+{
+    let begun = put_byte(&mut *out, at, b',');
+    put_number(out, begun, n)
 }
 
 // An integer: its decimal digits, behind a minus sign where it is negative.

@@ -6,17 +6,12 @@ use Prim.Native.Nat.{ℕ, _-_, _<_}
 use lib.Dec.{leb}
 use Rattle.command.specs.Text.{ascii, decimal}
 use Rattle.cycle.specs.Cycle.{isCycle}
-use Rattle.time_code.specs.Calendar.{inSpan}
 use Rattle.cycle_input.specs.declared.Read.{Read}
 
 -- where a cycle is said to be in the area, the area is one, of a book (02, request 7), and more frames were read than before
 pub record ReadPromise (y before : ℕ) (area : List ℕ) (r : Read) : Type 0 where
   pub is-cycle : r .whole ≡ true → isCycle y area ≡ true
   pub further : r .whole ≡ true → before < r .frames
-
--- 0, or a year of the span
-pub record YearPromise (r : ℕ) : Type 0 where
-  pub in-span : (r ≡ 0 → ⊥) → inSpan r ≡ true
 
 -- so many frames from this one on
 abbrev pub framesText : ℕ → ℕ → List ℕ

@@ -1,11 +1,10 @@
-// Cycles from the major frames of standard input, and the year that they are read with: what the programs over cycles share. What is left out is said
-// on standard error, each line after the program's name.
+// Cycles from the major frames of standard input: what the programs over cycles share. What is left out is said on standard error, each line after the
+// program's name.
 ghost use mathlib.Core.Path.{_≡_};
 ghost use mathlib.Core.Bool.{false};
 ghost use Rattle.command.specs.Text.{Adds};
-ghost use Rattle.cycle_input.specs.Reading.{ReadPromise, YearPromise, framesText};
+ghost use Rattle.cycle_input.specs.Reading.{ReadPromise, framesText};
 use base::format::MAJOR_FRAME;
-use command::Parsed;
 use command::put_field;
 use libc::STDIN_FILENO;
 
@@ -136,27 +135,4 @@ fn put_frames(out: &mut [u8], first: u64, count: u64) -> usize
     let begun = put_field(&mut *out, 0, b"frames ", first);
     let more = put_field(&mut *out, begun, b" and ", count - 1);
     command::put(out, more, b" after it")
-}
-
-// The year that an argument names, 0 where it names none of 1999 to 2099; a line says so then.
-pub fn year_at(program: &[u8], i: usize) -> u64
-    ensures { λ r. ⌜ YearPromise r ⌝ }
-{
-    let mut word = [0u8; LINE];
-    let n = os::arg(i, &mut word);
-    let parsed = command::number(&word[..n]);
-    match parsed {
-        Parsed::Value(year) => {
-            if time_code::year::in_span(year) {
-                return year;
-            }
-        }
-        Parsed::NotANumber => (),
-    }
-    command::say(
-        program,
-        &word[..n],
-        b"not a year: a number from 1999 to 2099 is asked for",
-    );
-    0
 }

@@ -1,23 +1,11 @@
 // The bodies of a book, one behind the other, as the cycles of standard input come.
-ghost use mathlib.Core.Path.{_≡_};
-ghost use Prim.Native.Nat.{_<_};
 ghost use lib.ListN.{length};
 ghost use Rattle.command.specs.Text.{Adds};
-ghost use Rattle.pcd_book.specs.Shelves.{Roomy, Fits, TurnPromise, EndPromise, risesAbove, leftOut, addedTo, roomText};
+ghost use Rattle.pcd_book.specs.Shelves.{Roomy, Fits, TurnPromise, GatherPromise, roomText};
+use book_shelf::Shelf;
 use command::put;
 use command::put_field;
 use cycle::CYCLE;
-
-// What is gathered: how many cycles, the instant of the last, how many frames were read; whether more may come, whether every cycle is among them and
-// nothing was cut off, and whether standard input could not be read.
-pub(crate) struct Shelf {
-    pub cycles: usize,
-    pub last: u64,
-    pub frames: u64,
-    pub more: bool,
-    pub all: bool,
-    pub failed: bool,
-}
 
 const WORDS: usize = 96;
 
@@ -28,9 +16,9 @@ const FRAMES: u64 = 4;
 // are held. A line says what is left out.
 pub(crate) fn gather(year: u64, bodies: &mut [u8]) -> Shelf
     requires { ⌜ Roomy (length (now bodies)) ⌝ }
-    ensures { λ r. ⌜ Fits (length (now (bodies .entry))) r ⌝ }
+    ensures { λ r. ⌜ GatherPromise year (now (bodies .entry)) (now (bodies .exit)) r ⌝ }
 {
-    let mut shelf = begun();
+    let mut shelf = book_shelf::begun();
     loop {
         shelf = turn(year, &mut *bodies, shelf);
         if !shelf.more {
@@ -39,91 +27,28 @@ pub(crate) fn gather(year: u64, bodies: &mut [u8]) -> Shelf
     }
 }
 
-fn begun() -> Shelf
-    ensures { λ r. ⌜ r .cycles ≡ 0 ⌝ }
-{
-    Shelf {
-        cycles: 0,
-        last: 0,
-        frames: 0,
-        more: true,
-        all: true,
-        failed: false,
-    }
-}
-
 // The next cycle.
 fn turn(year: u64, bodies: &mut [u8], s: Shelf) -> Shelf
     requires { ⌜ Fits (length (now bodies)) s ⌝ }
-    ensures { λ r. ⌜ TurnPromise (length (now (bodies .entry))) s r ⌝ }
+    ensures { λ r. ⌜ TurnPromise year (now (bodies .entry)) (now (bodies .exit)) s r ⌝ }
 {
     let room = bodies.len();
     let start = CYCLE * s.cycles;
     let end = start + CYCLE;
     let read = cycle_input::next_cycle(b"pcd-book", year, &mut bodies[start..end], s.frames);
     if !read.whole {
-        return ended(s, read.frames, read.cut, read.failed);
+        return book_shelf::ended(s, read.frames, read.cut, read.failed);
     }
     let instant = cycle::instant(year, &bodies[start..end]);
-    if !rises(s, instant) {
+    if !book_shelf::rises(s, instant) {
         say_of_cycle(read.frames, b"a cycle whose instant does not rise");
-        return left_out(s, read.frames);
+        return book_shelf::left_out(s, read.frames);
     }
     if room - end < CYCLE {
         say_no_room(read.frames, s.cycles as u64);
-        return left_out(s, read.frames);
+        return book_shelf::left_out(s, read.frames);
     }
-    added(s, read.frames, instant)
-}
-
-// Standard input has no cycle more.
-fn ended(s: Shelf, frames: u64, cut: bool, failed: bool) -> Shelf
-    ensures { λ r. ⌜ EndPromise s r ⌝ }
-{
-    let mut r = s;
-    r.frames = frames;
-    r.more = false;
-    r.failed = failed;
-    if cut {
-        r.all = false;
-    }
-    r
-}
-
-fn left_out(s: Shelf, frames: u64) -> Shelf
-    ensures { λ r. ⌜ r ≡ leftOut s frames ⌝ }
-{
-    Shelf {
-        cycles: s.cycles,
-        last: s.last,
-        frames: frames,
-        more: true,
-        all: false,
-        failed: false,
-    }
-}
-
-fn added(s: Shelf, frames: u64, instant: u64) -> Shelf
-    requires { ⌜ s .cycles < 256 ⌝ }
-    ensures { λ r. ⌜ r ≡ addedTo s frames instant ⌝ }
-{
-    Shelf {
-        cycles: s.cycles + 1,
-        last: instant,
-        frames: frames,
-        more: true,
-        all: s.all,
-        failed: false,
-    }
-}
-
-fn rises(s: Shelf, instant: u64) -> bool
-    ensures { λ r. ⌜ r ≡ risesAbove s instant ⌝ }
-{
-    if s.cycles == 0 {
-        return true;
-    }
-    s.last < instant
+    book_shelf::added(s, s.cycles + 1, read.frames, instant)
 }
 
 // The line of the cycle that ends with the last of so many frames.

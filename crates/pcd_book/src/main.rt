@@ -5,7 +5,7 @@ mod gathering;
 mod writing;
 
 ghost use lib.ListN.{length};
-ghost use Rattle.pcd_book.specs.Shelves.{Roomy};
+ghost use Rattle.pcd_book.specs.Shelves.{Roomy, Bound};
 use command::LARGE_ROOM;
 use command::Parsed;
 use command::SMALL_ROOM;
@@ -62,7 +62,7 @@ fn in_small_rooms(i: usize) -> bool {
 fn gather_small(i: usize, bodies: &mut [u8]) -> bool
     requires { ⌜ Roomy (length (now bodies)) ⌝ }
 {
-    let year = cycle_input::year_at(b"pcd-book", i);
+    let year = year_argument::year_at(b"pcd-book", i);
     if year == 0 {
         return false;
     }
@@ -74,7 +74,9 @@ fn gather_small(i: usize, bodies: &mut [u8]) -> bool
     write_small(year, &bodies[0..n]) & shelf.all
 }
 
-fn write_small(year: u64, bodies: &[u8]) -> bool {
+fn write_small(year: u64, bodies: &[u8]) -> bool
+    requires { ⌜ Bound year (now bodies) ⌝ }
+{
     let mut space = [0u8; SMALL_ROOM];
     let out: &mut [u8] = &mut space;
     writing::write(year, bodies, out)
@@ -89,7 +91,7 @@ fn in_large_rooms(i: usize) -> bool {
 fn gather_large(i: usize, bodies: &mut [u8]) -> bool
     requires { ⌜ Roomy (length (now bodies)) ⌝ }
 {
-    let year = cycle_input::year_at(b"pcd-book", i);
+    let year = year_argument::year_at(b"pcd-book", i);
     if year == 0 {
         return false;
     }
@@ -101,7 +103,9 @@ fn gather_large(i: usize, bodies: &mut [u8]) -> bool
     write_large(year, &bodies[0..n]) & shelf.all
 }
 
-fn write_large(year: u64, bodies: &[u8]) -> bool {
+fn write_large(year: u64, bodies: &[u8]) -> bool
+    requires { ⌜ Bound year (now bodies) ⌝ }
+{
     let mut space = [0u8; LARGE_ROOM];
     let out: &mut [u8] = &mut space;
     writing::write(year, bodies, out)

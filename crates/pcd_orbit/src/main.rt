@@ -2,13 +2,12 @@
 // is the year; the first names the descriptor for the status. Status 1 where standard input cannot be read, or ends within a frame, and where a line
 // cannot be written.
 mod records;
-mod rows;
 
 const HEADER: [u8; 101] =
     *b"cycle,frame,record,item,unit,value,refusal,instant,year,day,hour,minute,second,millisecond,sixteenth\n";
 
 fn main() {
-    let year = cycle_input::year_at(b"pcd-orbit", 2);
+    let year = year_argument::year_at(b"pcd-orbit", 2);
     if write_all(year) {
         command::end(0);
         return;

@@ -1,4 +1,4 @@
--- The lines of the descriptions, and bytes in hexadecimal digits. Assumes nothing.
+-- The lines of the forms, bytes in hexadecimal digits, and items one after the other. Assumes nothing.
 use mathlib.Core.Path.{_≡_, refl}
 use mathlib.Core.List.{List, append-nil}
 use Prim.Native.Nat.{ℕ, zero, suc, _+_, _≤_, _<_}
@@ -8,37 +8,25 @@ use lib.ListN.{length, take, getD}
 use lib.Seq.{take-suc}
 use Rattle.base.proofs.Lists.{concatMap-append}
 use Rattle.io.specs.Counts.{Counts}
+use Rattle.command.specs.Lines.{lineIn, firstLine, afterLine}
 use Rattle.command.specs.Text.{Adds}
 use Rattle.command.proofs.TextLaws.{adds-append, adds-within}
-use Rattle.word72_items.specs.Layout.{table17, table18, table19, table20}
-use Rattle.word72_items.specs.ItemTable.{layout, itemCount}
-use Rattle.word72_csv.specs.Descriptions.{descriptions, firstLine}
-use Rattle.word72_csv.specs.ItemLines.{itemLine, itemLines}
+use Rattle.word72_items.specs.declared.Form.{Form}
+use Rattle.word72_items.specs.declared.Form.the-variants.{Count, TwelveBit, Flags, Number, Time, Fill}
+use Rattle.word72_csv.specs.ItemLines.{formText, formLine, formWords, itemLine, itemLines}
 use Rattle.word72_csv.specs.Values.{hexByte, hexText}
 
-pub first-small : (k : ℕ) → firstLine k ≤ 163
-first-small zero = omega arith
-first-small (suc zero) = omega arith
-first-small (suc (suc zero)) = omega arith
-first-small (suc (suc (suc zero))) = omega arith
-first-small (suc (suc (suc (suc k)))) = omega arith
+-- each form has its line
+pub form-line : (f : Form) → formText f ≡ lineIn formWords (formLine f)
+unfolding lineIn firstLine afterLine
+form-line Count = refl
+form-line TwelveBit = refl
+form-line Flags = refl
+form-line Number = refl
+form-line Time = refl
+form-line Fill = refl
 
--- each item of each kind has its line
-pub one-line-each : (length descriptions ≡ 163)
-    × (firstLine 1 ≡ itemCount 0)
-    × (firstLine 2 ≡ firstLine 1 + itemCount 1)
-    × (firstLine 3 ≡ firstLine 2 + itemCount 2)
-    × (163 ≡ firstLine 3 + itemCount 3)
-unfolding layout table17 table18 table19 table20
-one-line-each = (refl, refl, refl, refl, refl)
-
--- a kind that is none of four
-pub no-first-line : (k : ℕ) → (k ≡ 0 → ⊥) → (k ≡ 1 → ⊥) → (k ≡ 2 → ⊥) → (k ≡ 3 → ⊥) → 163 ≡ firstLine k
-no-first-line zero a b c d = absurd (a refl)
-no-first-line (suc zero) a b c d = absurd (b refl)
-no-first-line (suc (suc zero)) a b c d = absurd (c refl)
-no-first-line (suc (suc (suc zero))) a b c d = absurd (d refl)
-no-first-line (suc (suc (suc (suc k)))) a b c d = refl
+-- ---- bytes in hexadecimal digits
 
 pub hex-none : {new : List ℕ} {b : ℕ} → Counts b new → (bytes : List ℕ) → Adds new b (hexText (take 0 bytes)) new b
 unfolding hexText

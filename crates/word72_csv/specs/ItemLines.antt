@@ -15,18 +15,18 @@ use Rattle.word72_column.specs.Columns.{columnKind}
 use Rattle.subcom.specs.Parts.{partOf}
 use Rattle.subcom.specs.Readings.{reading}
 use Rattle.command.specs.Text.{ascii, decimal}
-use Rattle.csv.specs.Fields.{csvField}
-use Rattle.word72_csv.specs.Descriptions.{description}
+use Rattle.csv.specs.Fields.{csvField, numberField}
+use Rattle.word72_descriptions.specs.Descriptions.{description}
 use Rattle.word72_csv.specs.Values.{readingText, refusedText}
 
 -- the frame, the kind, the item, its first place and its length
 abbrev pub placeText : ℕ → ℕ → ℕ → Item → List ℕ
 placeText frame kind item i =
     decimal frame
-    ++ (ascii "," ++ decimal kind)
-    ++ (ascii "," ++ decimal item)
-    ++ (ascii "," ++ decimal (i .first))
-    ++ (ascii "," ++ decimal (i .length))
+    ++ numberField kind
+    ++ numberField item
+    ++ numberField (i .first)
+    ++ numberField (i .length)
 
 abbrev pub formText : Form → List ℕ
 formText Count = ascii ",count,"
@@ -35,6 +35,19 @@ formText Flags = ascii ",flags,"
 formText Number = ascii ",number,"
 formText Time = ascii ",time,"
 formText Fill = ascii ",fill,"
+
+-- the same as lines
+abbrev pub formWords : List ℕ
+formWords = ascii ",count,\n,12-bit count,\n,flags,\n,number,\n,time,\n,fill,\n"
+
+-- which line is a form's
+abbrev pub formLine : Form → ℕ
+formLine Count = 0
+formLine TwelveBit = 1
+formLine Flags = 2
+formLine Number = 3
+formLine Time = 4
+formLine Fill = 5
 
 -- a frame that has no items
 abbrev pub refusedFrame : ℕ → ℕ → List ℕ

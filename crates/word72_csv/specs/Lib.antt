@@ -1,3 +1,2 @@
-pub mod Descriptions
 pub mod Values
 pub mod ItemLines

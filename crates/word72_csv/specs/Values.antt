@@ -2,9 +2,8 @@
 -- Definitions only.
 use mathlib.Core.Bool.{Bool, cond}
 use mathlib.Core.List.{List, [], _∷_, _++_}
-use Prim.Native.Nat.{ℕ, _-_, _*_, _/_, _%_}
+use Prim.Native.Nat.{ℕ, _/_, _%_}
 use lib.Ieee.{Float}
-use lib.ListN.{length, take, replicate}
 use Rattle.base.specs.Lists.{concatMap}
 use Rattle.io.specs.Digits.{glyph}
 use Rattle.time_code.specs.declared.TimeCode.{TimeCode}
@@ -13,21 +12,9 @@ use Rattle.word72_reading.specs.declared.Reading.{Reading}
 use Rattle.word72_reading.specs.declared.Reading.the-variants.{Count, Flags, Number, Time, Fill, Refused}
 use Rattle.command.specs.Text.{ascii, decimal}
 use Rattle.command.specs.Words.{refusalWords}
+use Rattle.csv.specs.Fields.{numberField}
 use Rattle.double_text.specs.Decimal.{doubleText}
-
--- a decimal number with zeros in front up to a width, 8 at most
-unfoldable pub padded : ℕ → ℕ → List ℕ
-padded width n = take (width - length (decimal n)) (replicate 8 0x30) ++ decimal n
-
--- an instant of a year, in sixteenths of a millisecond (01, "Time"): a sixteenth is 625 units of the seventh decimal of a second
-abbrev pub clockText : ℕ → ℕ → List ℕ
-clockText year t =
-    (ascii "," ++ padded 4 year)
-    ++ (ascii "-" ++ padded 3 (t / 1382400000))
-    ++ (ascii "T" ++ padded 2 (t / 57600000 % 24))
-    ++ (ascii ":" ++ padded 2 (t / 960000 % 60))
-    ++ (ascii ":" ++ padded 2 (t / 16000 % 60))
-    ++ (ascii "." ++ padded 7 (t % 16000 * 625))
+use Rattle.instant_text.specs.Instants.{clockText}
 
 abbrev pub bitGlyph : Bool → ℕ
 bitGlyph b = cond b 0x31 0x30
@@ -41,8 +28,12 @@ hexText bytes = concatMap hexByte bytes
 
 -- ---- the fields of each case
 
+-- no spacecraft, no time and no refusal
+abbrev pub noMore : List ℕ
+noMore = ascii ",,,,\n"
+
 abbrev pub countText : ℕ → List ℕ
-countText n = (ascii "," ++ decimal n) ++ ascii ",,,,\n"
+countText n = numberField n ++ noMore
 
 -- bits 0 to 7
 abbrev pub flagsText : EightFlags → List ℕ
@@ -50,16 +41,16 @@ flagsText f =
     (0x2c ∷ 0x62
     ∷ bitGlyph (f .bit0) ∷ bitGlyph (f .bit1) ∷ bitGlyph (f .bit2) ∷ bitGlyph (f .bit3)
     ∷ bitGlyph (f .bit4) ∷ bitGlyph (f .bit5) ∷ bitGlyph (f .bit6) ∷ bitGlyph (f .bit7) ∷ [])
-    ++ ascii ",,,,\n"
+    ++ noMore
 
 abbrev pub numberText : Float → List ℕ
-numberText x = ascii "," ++ doubleText x ++ ascii ",,,,\n"
+numberText x = ascii "," ++ doubleText x ++ noMore
 
 abbrev pub timeText : ℕ → TimeCode → List ℕ
-timeText year t = (ascii "," ++ decimal (t .instant)) ++ (ascii "," ++ decimal (t .spacecraft)) ++ clockText year (t .instant) ++ ascii ",,\n"
+timeText year t = numberField (t .instant) ++ numberField (t .spacecraft) ++ clockText year (t .instant) ++ ascii ",,\n"
 
 abbrev pub fillText : List ℕ → List ℕ
-fillText bytes = ascii ",x" ++ hexText bytes ++ ascii ",,,,\n"
+fillText bytes = ascii ",x" ++ hexText bytes ++ noMore
 
 abbrev pub refusedText : ℕ → List ℕ
 refusedText number = (ascii ",,,," ++ decimal number) ++ ascii ",\"" ++ refusalWords number ++ ascii "\"\n"

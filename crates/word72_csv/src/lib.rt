@@ -1,16 +1,14 @@
 // The items of word 72 as lines of comma-separated values: the frame, the kind, the item, its first place and its length, its form, the book's
 // description, the value; of a time code the spacecraft and the time; and of a refusal its number and what it means.
-mod clock;
-mod descriptions;
 mod value;
 
 ghost use mathlib.Core.Path.{_≡_};
 ghost use Rattle.word72_items.specs.Answers.{counted};
 ghost use Rattle.command.specs.Text.{Adds};
-ghost use Rattle.word72_csv.specs.ItemLines.{frameText, itemLines, countIn, itemLine, placeText, formText, refusedFrame};
+ghost use Rattle.word72_csv.specs.ItemLines.{frameText, itemLines, countIn, itemLine, placeText, formText, formLine, refusedFrame};
 use command::put;
-use command::put_field;
 use command::put_number;
+use csv::put_number_field;
 use subcom::ColumnKind;
 use subcom::Description;
 use subcom::Form;
@@ -20,6 +18,15 @@ use subcom::ItemCount;
 // The names of the fields.
 pub const HEADER: [u8; 90] =
     *b"frame,kind,item,first,length,form,description,value,spacecraft,time,refusal,refusal_means\n";
+
+const FORMS: [u8; 54] = *b"\
+,count,
+,12-bit count,
+,flags,
+,number,
+,time,
+,fill,
+";
 
 // Puts the lines of the items of a frame's column, recorded in a year; frames are counted from 0. Of a column of no kind there is one line, with
 // the refusal. A line has fewer than 1,000 bytes and no kind more than 62 items: 65,536 bytes are room enough.
@@ -77,7 +84,7 @@ fn put_item(
             let form = found.form;
             let placed = put_place(&mut *out, at, frame, kind, item, found);
             let formed = put_form(&mut *out, placed, form);
-            let described = descriptions::put_description(&mut *out, formed, kind, item);
+            let described = word72_descriptions::put_description(&mut *out, formed, kind, item);
             let reading = subcom::read(year, column, kind, item);
             return value::put_reading(
                 out,
@@ -107,22 +114,30 @@ fn put_place(out: &mut [u8], at: usize, frame: u64, kind: u64, item: u64, found:
     ensures { λ r. ⌜ Adds (now (out .entry)) at (placeText frame kind item found) (now (out .exit)) r ⌝ }
 {
     let a = put_number(&mut *out, at, frame);
-    let b = put_field(&mut *out, a, b",", kind);
-    let c = put_field(&mut *out, b, b",", item);
-    let d = put_field(&mut *out, c, b",", found.first as u64);
-    put_field(out, d, b",", found.length as u64)
+    let b = put_number_field(&mut *out, a, kind);
+    let c = put_number_field(&mut *out, b, item);
+    let d = put_number_field(&mut *out, c, found.first as u64);
+    put_number_field(out, d, found.length as u64)
 }
 
-// A form in a word.
+// A form in a word, between commas.
 fn put_form(out: &mut [u8], at: usize, form: Form) -> usize
     ensures { λ r. ⌜ Adds (now (out .entry)) at (formText form) (now (out .exit)) r ⌝ }
 {
+    let table = &FORMS;
+    put(out, at, command::line(table, form_line(form)))
+}
+
+// The line of a form's word.
+fn form_line(form: Form) -> usize
+    ensures { λ r. ⌜ r ≡ formLine form ⌝ }
+{
     match form {
-        Form::Count => put(out, at, b",count,"),
-        Form::TwelveBit => put(out, at, b",12-bit count,"),
-        Form::Flags => put(out, at, b",flags,"),
-        Form::Number => put(out, at, b",number,"),
-        Form::Time => put(out, at, b",time,"),
-        Form::Fill => put(out, at, b",fill,"),
+        Form::Count => 0,
+        Form::TwelveBit => 1,
+        Form::Flags => 2,
+        Form::Number => 3,
+        Form::Time => 4,
+        Form::Fill => 5,
     }
 }

@@ -3,13 +3,14 @@ ghost use mathlib.Core.Path.{_≡_};
 ghost use Prim.Native.Nat.{_<_};
 ghost use Rattle.io.specs.Digits.{glyph};
 ghost use Rattle.command.specs.Text.{Adds};
-ghost use Rattle.word72_csv.specs.Values.{readingText, countText, flagsText, numberText, timeText, fillText, refusedText, hexText, hexByte, bitGlyph};
-use crate::clock::put_clock;
+ghost use Rattle.word72_csv.specs.Values.{readingText, countText, flagsText, numberText, timeText, fillText, refusedText};
+ghost use Rattle.word72_csv.specs.Values.{noMore, hexText, hexByte, bitGlyph};
 use command::put;
 use command::put_byte;
 use command::put_field;
-use command::put_number;
 use command::put_words;
+use csv::put_number_field;
+use instant_text::put_clock;
 use subcom::EightFlags;
 use subcom::Reading;
 use time_code::TimeCode;
@@ -36,8 +37,15 @@ pub(crate) fn put_reading(
 fn put_count(out: &mut [u8], at: usize, n: u64) -> usize
     ensures { λ r. ⌜ Adds (now (out .entry)) at (countText n) (now (out .exit)) r ⌝ }
 {
-    let valued = put_field(&mut *out, at, b",", n);
-    put(out, valued, b",,,,\n")
+    let valued = put_number_field(&mut *out, at, n);
+    put_no_more(out, valued)
+}
+
+// The rest of a line that has a value: no spacecraft, no time and no refusal.
+fn put_no_more(out: &mut [u8], at: usize) -> usize
+    ensures { λ r. ⌜ Adds (now (out .entry)) at noMore (now (out .exit)) r ⌝ }
+{
+    put(out, at, b",,,,\n")
 }
 
 // The bits 0 to 7 behind a letter, so that no reader takes them for a decimal number.
@@ -57,7 +65,7 @@ fn put_flags(out: &mut [u8], at: usize, f: EightFlags) -> usize
         bit_glyph(f.bit7),
     ];
     let valued = put(&mut *out, at, &bits);
-    put(out, valued, b",,,,\n")
+    put_no_more(out, valued)
 }
 
 fn bit_glyph(bit: bool) -> u8
@@ -72,17 +80,17 @@ fn bit_glyph(bit: bool) -> u8
 fn put_real(out: &mut [u8], at: usize, x: f64) -> usize
     ensures { λ r. ⌜ Adds (now (out .entry)) at (numberText x) (now (out .exit)) r ⌝ }
 {
-    let begun = put(&mut *out, at, b",");
+    let begun = put_byte(&mut *out, at, b',');
     let valued = double_text::put_double(&mut *out, begun, x);
-    put(out, valued, b",,,,\n")
+    put_no_more(out, valued)
 }
 
 // A time's value is its instant.
 fn put_time(out: &mut [u8], at: usize, year: u64, t: TimeCode) -> usize
     ensures { λ r. ⌜ Adds (now (out .entry)) at (timeText year t) (now (out .exit)) r ⌝ }
 {
-    let valued = put_field(&mut *out, at, b",", t.instant);
-    let crafted = put_field(&mut *out, valued, b",", t.spacecraft);
+    let valued = put_number_field(&mut *out, at, t.instant);
+    let crafted = put_number_field(&mut *out, valued, t.spacecraft);
     let timed = put_clock(&mut *out, crafted, year, t.instant);
     put(out, timed, b",,\n")
 }
@@ -93,7 +101,7 @@ fn put_fill(out: &mut [u8], at: usize, bytes: &[u8]) -> usize
 {
     let begun = put(&mut *out, at, b",x");
     let valued = put_hex(&mut *out, begun, bytes);
-    put(out, valued, b",,,,\n")
+    put_no_more(out, valued)
 }
 
 // No value, and the refusal.

@@ -7,29 +7,17 @@ use Rattle.word72_csv.proofs.put_place.Tie as tie
 put-number-requires : tie.Need-put-number-requires
 put-number-requires c κs = search needs
 
-slice-aggregate-put-field : tie.Need-slice-aggregate-put-field
-slice-aggregate-put-field c = search needs
+put-number-field-requires : tie.Need-put-number-field-requires
+put-number-field-requires c κs = search needs
 
-put-field-requires : tie.Need-put-field-requires
-put-field-requires c κs = search needs
+put-number-field-requires-2 : tie.Need-put-number-field-requires-2
+put-number-field-requires-2 c κs = search needs
 
-slice-aggregate-put-field-2 : tie.Need-slice-aggregate-put-field-2
-slice-aggregate-put-field-2 c = search needs
+put-number-field-requires-3 : tie.Need-put-number-field-requires-3
+put-number-field-requires-3 c κs = search needs
 
-put-field-requires-2 : tie.Need-put-field-requires-2
-put-field-requires-2 c κs = search needs
-
-slice-aggregate-put-field-3 : tie.Need-slice-aggregate-put-field-3
-slice-aggregate-put-field-3 c = search needs
-
-put-field-requires-3 : tie.Need-put-field-requires-3
-put-field-requires-3 c κs = search needs
-
-slice-aggregate-put-field-4 : tie.Need-slice-aggregate-put-field-4
-slice-aggregate-put-field-4 c = search needs
-
-put-field-requires-4 : tie.Need-put-field-requires-4
-put-field-requires-4 c κs = search needs
+put-number-field-requires-4 : tie.Need-put-number-field-requires-4
+put-number-field-requires-4 c κs = search needs
 
 same-length : tie.Need-same-length
 same-length c = search needs
@@ -37,25 +25,22 @@ same-length c = search needs
 returns : tie.Need-returns
 returns c =
     let sized = c .before .before in
-    let placed = sized .before .before .before .before .before in
-    let numbered = placed .before .before .before .before .before in
-    let kinded = numbered .before .before .before .before .before in
-    let framed = kinded .before .before .before .before .before in
-    let to-number = adds-append (adds-append (framed .put-number .ensures) (kinded .put-field .ensures)) (numbered .put-field2 .ensures) in
-    adds-append (adds-append to-number (placed .put-field3 .ensures)) (sized .put-field4 .ensures)
+    let placed = sized .before .before .before .before in
+    let numbered = placed .before .before .before .before in
+    let kinded = numbered .before .before .before .before in
+    let framed = kinded .before .before .before .before in
+    let to-kind = adds-append (framed .put-number .ensures) (kinded .put-number-field .ensures) in
+    let to-number = adds-append to-kind (numbered .put-number-field2 .ensures) in
+    adds-append (adds-append to-number (placed .put-number-field3 .ensures)) (sized .put-number-field4 .ensures)
 
 pub put-place-spec : {M : Type 1} → statement M
 put-place-spec =
     tie.close
     (tie.spec
     put-number-requires
-    slice-aggregate-put-field
-    put-field-requires
-    slice-aggregate-put-field-2
-    put-field-requires-2
-    slice-aggregate-put-field-3
-    put-field-requires-3
-    slice-aggregate-put-field-4
-    put-field-requires-4
+    put-number-field-requires
+    put-number-field-requires-2
+    put-number-field-requires-3
+    put-number-field-requires-4
     same-length
     returns)

@@ -1,5 +1,7 @@
 -- `pcd_book::gathering::turn` meets its contract: whether a cycle comes, is added or is left out, the frames of one more have room. Assumes nothing.
+use mathlib.Core.Path.{sym, _∙_}
 use native.Mathlib.Omega.{arith}
+use denote.Ref.{now}
 use borrow.Author.Tests.{not-false}
 use Rattle.pcd_book.proofs.Laws.{ended-turn, left-turn, added-turn}
 use borrow.Author.Needs.{needs}
@@ -34,7 +36,12 @@ same-length : tie.Need-same-length
 same-length c = search needs
 
 returns : tie.Need-returns
-returns c = ended-turn (c .before .before .before .before .before .before .before .before .before .before .pre) (c .ended .ensures)
+returns c =
+    let asked = c .before .before .before .before .before in
+    let start = asked .before .before .before .before .before in
+    let read = asked .next-cycle in
+    ended-turn (start .args .year) (now (start .args .bodies)) (read .last .1 .1 .0) (start .args .s) _ (start .pre) (read .kept .1 .1 .0)
+    (c .ended .ensures)
 
 sub-instant : tie.Need-sub-instant
 sub-instant c = search needs
@@ -65,9 +72,12 @@ same-length-2 c = search needs
 
 returns-2 : tie.Need-returns-2
 returns-2 c =
-    let read = c .before .before .before .before .before .before .before .before in
-    let asked = read .before .before .before .before in
-    left-turn (asked .before .before .before .before .before .pre) (c .left-out .ensures) (asked .next-cycle .ensures .further (not-false _ (read .if1 .left)))
+    let tested = c .before .before .before .before .before .before .before .before in
+    let asked = tested .before .before .before .before in
+    let start = asked .before .before .before .before .before in
+    let read = asked .next-cycle in
+    left-turn (start .args .year) (now (start .args .bodies)) (read .last .1 .1 .0) (start .args .s) _ (start .pre) (read .kept .1 .1 .0)
+    (c .left-out .ensures) (read .ensures .further (not-false _ (tested .if1 .left)))
 
 sub-if3 : tie.Need-sub-if3
 sub-if3 c = search needs
@@ -83,9 +93,15 @@ same-length-3 c = search needs
 
 returns-3 : tie.Need-returns-3
 returns-3 c =
-    let read = c .before .before .before .before .before .before .before .before in
-    let asked = read .before .before .before .before in
-    left-turn (asked .before .before .before .before .before .pre) (c .left-out2 .ensures) (asked .next-cycle .ensures .further (not-false _ (read .if1 .left)))
+    let tested = c .before .before .before .before .before .before .before .before in
+    let asked = tested .before .before .before .before in
+    let start = asked .before .before .before .before .before in
+    let read = asked .next-cycle in
+    left-turn (start .args .year) (now (start .args .bodies)) (read .last .1 .1 .0) (start .args .s) _ (start .pre) (read .kept .1 .1 .0)
+    (c .left-out2 .ensures) (read .ensures .further (not-false _ (tested .if1 .left)))
+
+add-added : tie.Need-add-added
+add-added c = search needs
 
 added-requires : tie.Need-added-requires
 added-requires c κs = search needs
@@ -95,11 +111,18 @@ same-length-4 c = search needs
 
 returns-4 : tie.Need-returns-4
 returns-4 c =
-    let read = c .before .before .before .before .before .before .before in
-    let asked = read .before .before .before .before in
+    let room = c .before .before in
+    let rise = room .before in
+    let asked-rise = rise .before in
+    let asked-instant = asked-rise .before in
+    let tested = asked-instant .before .before .before in
+    let asked = tested .before .before .before .before in
     let start = asked .before .before .before .before .before in
-    let further = asked .next-cycle .ensures .further (not-false _ (read .if1 .left)) in
-    added-turn (start .pre) (c .added .ensures) (omega (arith, c .before .if3 .left)) further
+    let read = asked .next-cycle in
+    let whole = not-false _ (tested .if1 .left) in
+    added-turn (start .args .year) (now (start .args .bodies)) (read .last .1 .1 .0) (start .args .s) _ (start .pre) (read .kept .1 .1 .0) _
+    (read .ensures .is-cycle whole) (asked-instant .instant .ensures) (sym (asked-rise .rises .ensures) ∙ not-false _ (rise .if2 .left))
+    (c .added .ensures) (omega (arith, room .if3 .left)) (read .ensures .further whole)
 
 pub turn-spec : {M : Type 1} → statement M
 turn-spec =
@@ -130,6 +153,7 @@ turn-spec =
     left-out-requires-2
     same-length-3
     returns-3
+    add-added
     added-requires
     same-length-4
     returns-4)

@@ -13,11 +13,8 @@ put-requires c κs = search needs
 put-hex-requires : tie.Need-put-hex-requires
 put-hex-requires c κs = search needs
 
-slice-aggregate-put-2 : tie.Need-slice-aggregate-put-2
-slice-aggregate-put-2 c = search needs
-
-put-requires-2 : tie.Need-put-requires-2
-put-requires-2 c κs = search needs
+put-no-more-requires : tie.Need-put-no-more-requires
+put-no-more-requires c κs = search needs
 
 same-length : tie.Need-same-length
 same-length c = search needs
@@ -25,9 +22,9 @@ same-length c = search needs
 returns : tie.Need-returns
 returns c =
     let ended = c .before .before in
-    let valued = ended .before .before .before .before .before in
+    let valued = ended .before .before .before .before in
     let begun = valued .before .before .before .before in
-    adds-append (adds-append (begun .put .ensures) (valued .put-hex .ensures)) (ended .put2 .ensures)
+    adds-append (adds-append (begun .put .ensures) (valued .put-hex .ensures)) (ended .put-no-more .ensures)
 
 pub put-fill-spec : {M : Type 1} → statement M
 put-fill-spec =
@@ -36,7 +33,6 @@ put-fill-spec =
     slice-aggregate-put
     put-requires
     put-hex-requires
-    slice-aggregate-put-2
-    put-requires-2
+    put-no-more-requires
     same-length
     returns)

@@ -35,11 +35,8 @@ slice-aggregate-put c = search needs
 put-requires : tie.Need-put-requires
 put-requires c κs = search needs
 
-slice-aggregate-put-2 : tie.Need-slice-aggregate-put-2
-slice-aggregate-put-2 c = search needs
-
-put-requires-2 : tie.Need-put-requires-2
-put-requires-2 c κs = search needs
+put-no-more-requires : tie.Need-put-no-more-requires
+put-no-more-requires c κs = search needs
 
 same-length : tie.Need-same-length
 same-length c = search needs
@@ -47,7 +44,7 @@ same-length c = search needs
 returns : tie.Need-returns
 returns c =
     let ended = c .before .before in
-    let valued = ended .before .before .before .before .before in
+    let valued = ended .before .before .before .before in
     let b7 = valued .before .before .before in
     let b6 = b7 .before in
     let b5 = b6 .before in
@@ -66,7 +63,7 @@ returns c =
       ← b6 .bit-glyph7 .ensures,
       ← b7 .bit-glyph8 .ensures,
     )
-    (adds-append (valued .put .ensures) (ended .put2 .ensures))
+    (adds-append (valued .put .ensures) (ended .put-no-more .ensures))
 
 pub put-flags-spec : {M : Type 1} → statement M
 put-flags-spec =
@@ -82,7 +79,6 @@ put-flags-spec =
     bit-glyph-requires-8
     slice-aggregate-put
     put-requires
-    slice-aggregate-put-2
-    put-requires-2
+    put-no-more-requires
     same-length
     returns)

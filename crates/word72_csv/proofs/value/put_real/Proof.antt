@@ -4,20 +4,14 @@ use Rattle.command.proofs.TextLaws.{adds-append}
 use Rattle.word72_csv.proofs.value.put_real.Statement.{statement}
 use Rattle.word72_csv.proofs.value.put_real.Tie as tie
 
-slice-aggregate-put : tie.Need-slice-aggregate-put
-slice-aggregate-put c = search needs
-
-put-requires : tie.Need-put-requires
-put-requires c κs = search needs
+put-byte-requires : tie.Need-put-byte-requires
+put-byte-requires c κs = search needs
 
 put-double-requires : tie.Need-put-double-requires
 put-double-requires c κs = search needs
 
-slice-aggregate-put-2 : tie.Need-slice-aggregate-put-2
-slice-aggregate-put-2 c = search needs
-
-put-requires-2 : tie.Need-put-requires-2
-put-requires-2 c κs = search needs
+put-no-more-requires : tie.Need-put-no-more-requires
+put-no-more-requires c κs = search needs
 
 same-length : tie.Need-same-length
 same-length c = search needs
@@ -25,18 +19,16 @@ same-length c = search needs
 returns : tie.Need-returns
 returns c =
     let ended = c .before .before in
-    let valued = ended .before .before .before .before .before in
+    let valued = ended .before .before .before .before in
     let begun = valued .before .before .before .before in
-    adds-append (adds-append (begun .put .ensures) (valued .put-double .ensures)) (ended .put2 .ensures)
+    adds-append (adds-append (begun .put-byte .ensures) (valued .put-double .ensures)) (ended .put-no-more .ensures)
 
 pub put-real-spec : {M : Type 1} → statement M
 put-real-spec =
     tie.close
     (tie.spec
-    slice-aggregate-put
-    put-requires
+    put-byte-requires
     put-double-requires
-    slice-aggregate-put-2
-    put-requires-2
+    put-no-more-requires
     same-length
     returns)
