@@ -3,8 +3,8 @@ use mathlib.Core.Path.{_≡_}
 use mathlib.Core.List.{List}
 use Prim.Native.Nat.{ℕ, _+_}
 use Rattle.base.specs.Lists.{one}
-use Rattle.reel_reading.specs.declared.Event.{Event}
-use Rattle.reel_reading.specs.Reading.{Stands, isComplete}
+use Rattle.reel_state.specs.declared.Event.{Event}
+use Rattle.reel_state.specs.Reading.{Stands, isComplete}
 use Rattle.pcd_frames.specs.declared.State.{State}
 
 -- the tally is that of the bytes read, and each major frame that is paid was written once

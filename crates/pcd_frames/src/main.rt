@@ -6,7 +6,7 @@ mod report;
 
 ghost use mathlib.Core.Path.{_≡_};
 ghost use Prim.Native.Nat.{_+_};
-ghost use Rattle.reel_reading.specs.Reading.{blank};
+ghost use Rattle.reel_state.specs.Reading.{blank};
 ghost use Rattle.pcd_frames.specs.Frames.{AllWritten, Came, SameReel, ShiftChanged, AllRead};
 use progress::Progress;
 use reel_reading::Event;

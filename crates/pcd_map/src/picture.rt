@@ -4,9 +4,9 @@ ghost use Rattle.io.specs.Counts.{Counts};
 use command::put;
 use command::put_field;
 use labelling::Tally;
-use reel_map::put_label;
-use reel_map::put_legend;
-use reel_map::put_rect;
+use map_lines::put_label;
+use map_lines::put_legend;
+use map_lines::put_rect;
 
 // A row has 128 runs at most, of 60 bytes at most each; the heading and the legend are shorter.
 const TEXT: usize = 8192;

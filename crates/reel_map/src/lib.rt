@@ -1,14 +1,9 @@
 // A map of a reel: a cell stands for a stretch of its bytes, and has the highest class of what came of them.
-mod text;
-
 ghost use mathlib.Core.Path.{_≡_};
 ghost use Prim.Native.Nat.{_+_, _*_, _/_, _^_, _<_};
 ghost use lib.ListN.{getD};
 ghost use Rattle.reel_map.specs.Cells.{higher, classOf, seenIn, pairIn, raised, halved, RunEnd, looked, NextPromise};
 use labelling::Tally;
-pub use text::put_label;
-pub use text::put_legend;
-pub use text::put_rect;
 
 // The classes, by rising rank. Of what a cell has, it shows the highest.
 const NOTHING: u8 = 0;

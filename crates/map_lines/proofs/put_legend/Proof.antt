@@ -1,8 +1,8 @@
--- `reel_map::text::put_legend` meets its contract: one part behind the other. Assumes nothing.
+-- `map_lines::put_legend` meets its contract: one part behind the other. Assumes nothing.
 use Rattle.command.proofs.TextLaws.{adds-append}
 use borrow.Author.Needs.{needs}
-use Rattle.reel_map.proofs.text.put_legend.Statement.{statement}
-use Rattle.reel_map.proofs.text.put_legend.Tie as tie
+use Rattle.map_lines.proofs.put_legend.Statement.{statement}
+use Rattle.map_lines.proofs.put_legend.Tie as tie
 
 slice-aggregate-put-field : tie.Need-slice-aggregate-put-field
 slice-aggregate-put-field c = search needs

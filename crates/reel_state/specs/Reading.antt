@@ -12,10 +12,10 @@ use Rattle.own_sync.specs.Relocking.{Relocked as RelockedCalls}
 use Rattle.relocking.specs.declared.Feeder.{Feeder}
 use Rattle.relocking.specs.declared.Relocked.{Relocked}
 use Rattle.relocking.specs.Relock.{beginning}
-use Rattle.reel_reading.specs.declared.Event.{Event}
-use Rattle.reel_reading.specs.declared.Event.the-variants.{Onward, Filled, Complete, Cut, Ended, Unreadable, Refused}
-use Rattle.reel_reading.specs.declared.Advanced.{Advanced}
-use Rattle.reel_reading.specs.declared.Reel.{Reel}
+use Rattle.reel_state.specs.declared.Event.{Event}
+use Rattle.reel_state.specs.declared.Event.the-variants.{Onward, Filled, Complete, Cut, Ended, Unreadable, Refused}
+use Rattle.reel_state.specs.declared.Advanced.{Advanced}
+use Rattle.reel_state.specs.declared.Reel.{Reel}
 
 abbrev pub blank : List ℕ
 blank = replicate 16384 0

@@ -1,6 +1,6 @@
-// The lines of the picture, in SVG.
+// The lines of a map's picture, in SVG.
 ghost use Rattle.command.specs.Text.{Adds};
-ghost use Rattle.reel_map.specs.Lines.{placeText, rectText, labelText, legendText};
+ghost use Rattle.map_lines.specs.Lines.{placeText, rectText, labelText, legendText};
 use command::put;
 use command::put_field;
 

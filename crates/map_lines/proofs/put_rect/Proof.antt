@@ -1,8 +1,8 @@
--- `reel_map::text::put_rect` meets its contract: one part behind the other. Assumes nothing.
+-- `map_lines::put_rect` meets its contract: one part behind the other. Assumes nothing.
 use Rattle.command.proofs.TextLaws.{adds-append}
 use borrow.Author.Needs.{needs}
-use Rattle.reel_map.proofs.text.put_rect.Statement.{statement}
-use Rattle.reel_map.proofs.text.put_rect.Tie as tie
+use Rattle.map_lines.proofs.put_rect.Statement.{statement}
+use Rattle.map_lines.proofs.put_rect.Tie as tie
 
 put-place-requires : tie.Need-put-place-requires
 put-place-requires c κs = search needs
