@@ -4,10 +4,10 @@ ghost use mathlib.Core.Bool.{false};
 ghost use Prim.Native.Nat.{_+_, _≤_, _<_};
 ghost use lib.ListN.{take, drop};
 ghost use Rattle.reel_state.specs.Reading.{isComplete, Keeps};
+use libc::STDIN_FILENO;
 use reel_state::Advanced;
 use reel_state::Event;
 use reel_state::Reel;
-use libc::STDIN_FILENO;
 
 // More bytes behind those that were not taken, which go to the front of the buffer; or the next file; or nothing follows.
 pub(crate) fn more(program: &[u8], reel: Reel, buffer: &mut [u8]) -> Advanced

@@ -9,7 +9,7 @@ use lib.Dec.{leb}
 use lib.ListN.{take, drop}
 use lib.Seq.{take-add, drop-drop}
 use borrow.Author.Tests.{le-leb, lt-leb, leb-true, leb-false}
-use Rattle.reel_map.specs.Cells.{higher, highest, cellOf}
+use Rattle.map_cells.specs.Cells.{higher, highest, cellOf}
 
 higher-nothing : (a : ℕ) → higher 0 a ≡ a
 higher-nothing a = simp (le-leb 0 a (omega arith))

@@ -1,13 +1,13 @@
--- `reel_map::halve` meets its contract: the cells before place i are joined pairs, and a pair stands at i or beyond. Assumes nothing.
+-- `map_cells::halve` meets its contract: the cells before place i are joined pairs, and a pair stands at i or beyond. Assumes nothing.
 use mathlib.Core.Path.{_∙_}
 use Prim.Native.Nat.{_-_, _≤_}
 use native.Mathlib.Omega.{arith}
 use lib.ListN.{length, length-set}
 use denote.Ref.{now}
-use Rattle.reel_map.specs.Cells.{pairIn}
-use Rattle.reel_map.proofs.Cells.{Upto, upto-begin, upto-next, upto-end, pair-rest}
-use Rattle.reel_map.proofs.halve.Statement.{statement}
-use Rattle.reel_map.proofs.halve.Tie as tie
+use Rattle.map_cells.specs.Cells.{pairIn}
+use Rattle.map_cells.proofs.Cells.{Upto, upto-begin, upto-next, upto-end, pair-rest}
+use Rattle.map_cells.proofs.halve.Statement.{statement}
+use Rattle.map_cells.proofs.halve.Tie as tie
 
 abbrev Inv-loop : tie.InvT-loop
 Inv-loop cells₀ i₀ cells i = (i ≤ length cells) × Upto (pairIn cells₀) cells₀ cells i

@@ -1,12 +1,12 @@
--- `reel_map::raise` meets its contract: the cells before place i are raised as they must be. Assumes nothing.
+-- `map_cells::raise` meets its contract: the cells before place i are raised as they must be. Assumes nothing.
 use Prim.Native.Nat.{_-_, _≤_}
 use native.Mathlib.Omega.{arith}
 use lib.ListN.{length, length-set}
 use denote.Ref.{now}
-use Rattle.reel_map.specs.Cells.{raisedAt}
-use Rattle.reel_map.proofs.Cells.{Upto, upto-begin, upto-next, upto-end, raise-step, not-before, not-behind}
-use Rattle.reel_map.proofs.raise.Statement.{statement}
-use Rattle.reel_map.proofs.raise.Tie as tie
+use Rattle.map_cells.specs.Cells.{raisedAt}
+use Rattle.map_cells.proofs.Cells.{Upto, upto-begin, upto-next, upto-end, raise-step, not-before, not-behind}
+use Rattle.map_cells.proofs.raise.Statement.{statement}
+use Rattle.map_cells.proofs.raise.Tie as tie
 
 abbrev Inv-loop : tie.InvT-loop
 Inv-loop cells₀ from to class i₀ cells i = (from ≤ i) × Upto (raisedAt cells₀ from to class) cells₀ cells i

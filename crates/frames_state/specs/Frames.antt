@@ -5,7 +5,7 @@ use Prim.Native.Nat.{ℕ, _+_}
 use Rattle.base.specs.Lists.{one}
 use Rattle.reel_state.specs.declared.Event.{Event}
 use Rattle.reel_state.specs.Reading.{Stands, isComplete}
-use Rattle.pcd_frames.specs.declared.State.{State}
+use Rattle.frames_state.specs.declared.State.{State}
 
 -- the tally is that of the bytes read, and each major frame that is paid was written once
 pub record AllWritten (s : State) (area : List ℕ) : Type 0 where

@@ -1,9 +1,9 @@
--- `reel_map::pair` meets its contract: a cell and its neighbour, or neither is there. Assumes nothing.
+-- `map_cells::pair` meets its contract: a cell and its neighbour, or neither is there. Assumes nothing.
 use denote.Ref.{now}
 use borrow.Author.Needs.{needs}
-use Rattle.reel_map.proofs.Cells.{pair-beyond}
-use Rattle.reel_map.proofs.pair.Statement.{statement}
-use Rattle.reel_map.proofs.pair.Tie as tie
+use Rattle.map_cells.proofs.Cells.{pair-beyond}
+use Rattle.map_cells.proofs.pair.Statement.{statement}
+use Rattle.map_cells.proofs.pair.Tie as tie
 
 returns : tie.Need-returns
 returns c = pair-beyond (now (c .before .before .args .cells)) _ (c .if1 .taken)

@@ -1,10 +1,10 @@
--- `reel_map::at` meets its contract: beyond the cells there is nothing. Assumes nothing.
+-- `map_cells::at` meets its contract: beyond the cells there is nothing. Assumes nothing.
 use mathlib.Core.Path.{sym}
 use lib.ListN.{List·getD-eq-default}
 use denote.Ref.{now}
 use borrow.Author.Needs.{needs}
-use Rattle.reel_map.proofs.at.Statement.{statement}
-use Rattle.reel_map.proofs.at.Tie as tie
+use Rattle.map_cells.proofs.at.Statement.{statement}
+use Rattle.map_cells.proofs.at.Tie as tie
 
 shared-slice-read-result : tie.Need-shared-slice-read-result
 shared-slice-read-result c = search needs

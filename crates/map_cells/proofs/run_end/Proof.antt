@@ -1,12 +1,12 @@
--- `reel_map::run_end` meets its contract: the cells passed are equal. Assumes nothing.
+-- `map_cells::run_end` meets its contract: the cells passed are equal. Assumes nothing.
 use mathlib.Core.Path.{_≡_, refl, sym, _∙_}
 use Prim.Native.Nat.{ℕ, _-_, _≤_}
 use native.Mathlib.Omega.{arith}
 use lib.ListN.{getD}
 use denote.Ref.{now}
-use Rattle.reel_map.proofs.Cells.{Alike, alike-begin, alike-next, alike-stopped, alike-ended}
-use Rattle.reel_map.proofs.run_end.Statement.{statement}
-use Rattle.reel_map.proofs.run_end.Tie as tie
+use Rattle.map_cells.proofs.Cells.{Alike, alike-begin, alike-next, alike-stopped, alike-ended}
+use Rattle.map_cells.proofs.run_end.Statement.{statement}
+use Rattle.map_cells.proofs.run_end.Tie as tie
 
 abbrev Inv-loop : tie.InvT-loop
 Inv-loop cells from end class i₀ i = Alike cells from end i

@@ -10,8 +10,7 @@ use lib.Seq.{getD-set-same, getD-set-other, ext-getD}
 use borrow.Author.Tests.{le-leb, lt-leb, leb-true, leb-false, eqb-true, eqb-false}
 use Rattle.base.specs.Ranges.{tabulate}
 use Rattle.base.proofs.Ranges.{tabulate-length, tabulate-at}
-use Rattle.reel_map.specs.Cells.{higher, raisedAt, pairIn, halved, RunEnd, NextPromise}
-use Rattle.reel_map.specs.declared.Map.{Map}
+use Rattle.map_cells.specs.Cells.{higher, raisedAt, pairIn, RunEnd}
 
 -- ---- cells that are rewritten in order
 
@@ -132,16 +131,3 @@ module _ (cells : List ℕ) (from end : ℕ) where
 
   pub alike-ended : (i : ℕ) → end ≤ i → Alike cells from end i → RunEnd cells from end i
   alike-ended i h a = record { beyond = a .beyond; within = a .within; goes-on = λ l. omega (arith, l, h); equal = a .equal }
-
--- ---- the next cell
-
-module _ (m r : Map) (old : List ℕ) where
-  pub next-none : length old ≤ m .cell → NextPromise m old old r
-  next-none h = record { goes-on = λ l. absurd (omega (arith, h, l)); joins = λ e. absurd (omega (arith, h, e)) }
-
-  pub next-goes : m .cell + 1 < length old → (r .cell ≡ m .cell + 1) × (r .length ≡ m .length) → NextPromise m old old r
-  next-goes h e = record { goes-on = λ _. (refl, e .0, e .1); joins = λ f. absurd (omega (arith, h, f)) }
-
-  pub next-joins : (new : List ℕ) → length old ≤ m .cell + 1 → new ≡ halved old
-      → (r .cell ≡ (m .cell + 1) / 2) × (m .length < 2 ^ 61 → r .length ≡ 2 * m .length) → NextPromise m old new r
-  next-joins new h e f = record { goes-on = λ l. absurd (omega (arith, h, l)); joins = λ _. (e, f .0, f .1) }

@@ -1,7 +1,7 @@
--- `reel_map::the_higher` meets its contract: the test is the definition's. Assumes nothing.
+-- `map_cells::the_higher` meets its contract: the test is the definition's. Assumes nothing.
 use borrow.Author.Tests.{le-leb, lt-leb}
-use Rattle.reel_map.proofs.the_higher.Statement.{statement}
-use Rattle.reel_map.proofs.the_higher.Tie as tie
+use Rattle.map_cells.proofs.the_higher.Statement.{statement}
+use Rattle.map_cells.proofs.the_higher.Tie as tie
 
 returns : tie.Need-returns
 returns c = rw (le-leb _ _ (c .if1 .taken))
