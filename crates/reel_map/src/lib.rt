@@ -8,7 +8,7 @@ use map_cells::NOTHING;
 use map_cells::halve;
 use map_cells::raise;
 
-// The classes above it, by rising rank. Of what a cell has, it shows the highest.
+// The classes above NOTHING, by rising rank. Of what a cell has, it shows the highest.
 const GOOD: u8 = 1;
 
 const PAID: u8 = 2;
