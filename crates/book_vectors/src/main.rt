@@ -6,6 +6,7 @@ use base::format;
 use book_check::Verdict;
 use cycle::CYCLE;
 use vectors::field;
+use vectors::fields;
 use vectors::filled;
 use vectors::number;
 use vectors::put;
@@ -50,15 +51,30 @@ fn turn(bodies: &mut [u8], book: &mut [u8]) -> bool {
         return false;
     }
     let n = number(&record[4..8]) as usize;
-    let value = number(&record[8..16]);
-    match record[0] {
+    run(record[0], n, number(&record[8..16]), bodies, book)
+}
+
+fn run(operation: u8, n: usize, value: u64, bodies: &mut [u8], book: &mut [u8]) -> bool {
+    match operation {
         1 => return make_body(bodies, n, value),
         2 => return patch(bodies, n, value),
         3 => return write(bodies, n, value, book),
+        _ => return on_book(operation, n, value, book),
+    }
+}
+
+fn on_book(operation: u8, n: usize, value: u64, book: &mut [u8]) -> bool {
+    match operation {
         4 => return patch(book, n, value),
         5 => return fill(book, n, value),
+        _ => return ask(operation, n, value, book),
+    }
+}
+
+fn ask(operation: u8, n: usize, i: u64, book: &[u8]) -> bool {
+    match operation {
         6 => return view(book, n),
-        7 => return parts(book, n, value),
+        7 => return parts(book, n, i),
         8 => return check(book, n),
         _ => return false,
     }
@@ -177,13 +193,14 @@ fn write(bodies: &[u8], n: usize, year: u64, book: &mut [u8]) -> bool {
     if book.len() < length {
         return false;
     }
-    field(
-        b"write ",
-        book_writer::write(year, &bodies[0..n], &mut book[0..length]) as u64,
-    );
-    field(b" sum ", vectors::checksum(&book[0..length]));
-    put(b"\n");
+    put_written(year, &bodies[0..n], &mut book[0..length]);
     true
+}
+
+fn put_written(year: u64, bodies: &[u8], book: &mut [u8]) {
+    let answer = book_writer::write(year, bodies, &mut *book);
+    let numbers = [answer as u64, vectors::checksum(book)];
+    fields(b"write # sum #\n", &numbers);
 }
 
 fn view(area: &[u8], n: usize) -> bool {
@@ -195,10 +212,12 @@ fn view(area: &[u8], n: usize) -> bool {
 }
 
 fn put_view(bytes: &[u8]) {
-    field(b"view ", book::view_refusal(bytes) as u64);
-    field(b" cycles ", book_view::cycles_of(bytes));
-    field(b" year ", book_view::year_of(bytes));
-    put(b"\n");
+    let numbers = [
+        book::view_refusal(bytes) as u64,
+        book_view::cycles_of(bytes),
+        book_view::year_of(bytes),
+    ];
+    fields(b"view # cycles # year #\n", &numbers);
 }
 
 fn check(area: &[u8], n: usize) -> bool {
@@ -213,9 +232,8 @@ fn check(area: &[u8], n: usize) -> bool {
 }
 
 fn put_fault(number: u8, entry: u64) {
-    field(b"check ", number as u64);
-    field(b" entry ", entry);
-    put(b"\n");
+    let numbers = [number as u64, entry];
+    fields(b"check # entry #\n", &numbers);
 }
 
 fn parts(area: &[u8], n: usize, i: u64) -> bool {
@@ -246,13 +264,12 @@ fn put_viewed(bytes: &[u8], i: u64) {
 }
 
 fn put_entry(entry: &[u8]) {
-    field(b" ", entry.len() as u64);
-    put(b" ");
+    let numbers = [entry.len() as u64];
+    fields(b" # ", &numbers);
     vectors::put_bytes(entry);
 }
 
 fn put_body_sum(body: &[u8]) {
-    field(b" ", body.len() as u64);
-    field(b" ", vectors::checksum(body));
-    put(b"\n");
+    let numbers = [body.len() as u64, vectors::checksum(body)];
+    fields(b" # #\n", &numbers);
 }

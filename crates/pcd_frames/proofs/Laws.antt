@@ -5,14 +5,14 @@ use mathlib.Core.List.{List}
 use Prim.Native.Nat.{ℕ, _+_}
 use native.Mathlib.Omega.{arith}
 use Rattle.base.specs.Lists.{one}
-use Rattle.reel_reading.specs.declared.Advanced.{Advanced}
-use Rattle.reel_reading.specs.declared.Event.{Event}
-use Rattle.reel_reading.specs.declared.Event.the-variants.{Complete}
-use Rattle.reel_reading.specs.declared.Reel.{Reel}
-use Rattle.reel_reading.specs.Reading.{blank, Stands, isComplete, AdvancePromise}
+use Rattle.reel_state.specs.declared.Advanced.{Advanced}
+use Rattle.reel_state.specs.declared.Event.{Event}
+use Rattle.reel_state.specs.declared.Event.the-variants.{Complete}
+use Rattle.reel_state.specs.declared.Reel.{Reel}
+use Rattle.reel_state.specs.Reading.{blank, Stands, isComplete, AdvancePromise}
 use Rattle.reel_reading.proofs.Laws.{stands-advanced}
-use Rattle.pcd_frames.specs.declared.State.{State}
-use Rattle.pcd_frames.specs.Frames.{AllWritten, AllRead, Came, SameReel, ShiftChanged}
+use Rattle.frames_state.specs.declared.State.{State}
+use Rattle.frames_state.specs.Frames.{AllWritten, AllRead, Came, SameReel, ShiftChanged}
 
 frames-same : {x y : Reel} → x ≡ y → x .frames ≡ y .frames
 frames-same e = ap (λ (x : Reel). x .frames) e

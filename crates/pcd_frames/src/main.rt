@@ -6,11 +6,13 @@ mod report;
 
 ghost use mathlib.Core.Path.{_≡_};
 ghost use Prim.Native.Nat.{_+_};
-ghost use Rattle.reel_reading.specs.Reading.{blank};
-ghost use Rattle.pcd_frames.specs.Frames.{AllWritten, Came, SameReel, ShiftChanged, AllRead};
-use progress::Progress;
+ghost use Rattle.reel_state.specs.Reading.{blank};
+ghost use Rattle.frames_state.specs.Frames.{AllWritten, Came, SameReel, ShiftChanged, AllRead};
+use frames_state::State;
+use frames_state::ended;
+use frames_state::undone;
+use frames_state::wrote;
 use reel_reading::Event;
-use reel_reading::Reel;
 
 const FIRST_FILE: usize = 4;
 
@@ -18,19 +20,6 @@ const FIRST_FILE: usize = 4;
 const MOST_TURNS: u64 = 1 << 62;
 
 const NEVER: u64 = 18446744073709551615;
-
-struct State {
-    reel: Reel,
-    // How many major frames were written.
-    written: u64,
-    // How many shifts have begun, and from which byte on the next one is.
-    begun: usize,
-    next: u64,
-    // Whether all was done so far, and whether the reading goes on.
-    done: bool,
-    goes_on: bool,
-    progress: Progress,
-}
 
 fn main() {
     let mut space = io::large_buffer();
@@ -41,14 +30,19 @@ fn main() {
     command::end(1);
 }
 
-// Reads the shifts into the text, if a file of them is named; then the reel.
+// Reads the shifts, if a file of them is named, and the reel.
 fn run(text: &mut [u8]) -> bool {
     let mut space = io::buffer();
     let n = os::arg(3, &mut space);
     if n == 0 {
         return read_reel(&text[..n]);
     }
-    let named = shifts::read(b"pcd-frames", &space[..n], &mut *text);
+    run_with(&space[..n], text)
+}
+
+// Reads the shifts of this file into the text; then the reel.
+fn run_with(path: &[u8], text: &mut [u8]) -> bool {
+    let named = shifts::read(b"pcd-frames", path, &mut *text);
     if named.failed {
         return false;
     }
@@ -59,11 +53,8 @@ fn run(text: &mut [u8]) -> bool {
 // Reads the reel with these shifts, and tells of it.
 fn read_reel(shifts: &[u8]) -> bool {
     let s = read_all(shifts);
-    let reel = s.reel;
-    let feeder = reel.feeder;
-    let progress = s.progress;
-    progress::end(progress);
-    report::show(feeder.tally, feeder.handed, 0 < shifts.len());
+    progress::end(s.progress);
+    report::show(s.reel.feeder.tally, s.reel.feeder.handed, 0 < shifts.len());
     s.done
 }
 
@@ -114,10 +105,9 @@ fn turn(s: State, buffer: &mut [u8], area: &mut [u8], shifts: &[u8]) -> State
     requires { ⌜ AllWritten s (now area) ⌝ }
     ensures { λ r. ⌜ AllWritten r (now (area .exit)) ⌝ }
 {
-    let reel = s.reel;
-    let next = reel_reading::advance(b"pcd-frames", reel, s.next, &mut *buffer, &mut *area);
-    let after = next.reel;
+    let next = reel_reading::advance(b"pcd-frames", s.reel, s.next, &mut *buffer, &mut *area);
     let mut r = s;
+    let after = next.reel;
     r.reel = after;
     let event = next.event;
     done_with(event, r, area, shifts)
@@ -165,12 +155,8 @@ fn write_frame(s: State, area: &[u8]) -> State
     requires { ⌜ s .written + 1 ≡ s .reel .frames ⌝ }
     ensures { λ r. ⌜ (r .reel ≡ s .reel) × (r .written ≡ s .reel .frames) ⌝ }
 {
-    let mut r = s;
-    r.written = s.written + 1;
     let shown = command::show(b"pcd-frames", area);
-    r.done = s.done & shown;
-    r.goes_on = shown;
-    r
+    wrote(s, shown)
 }
 
 // The next shift begins.
@@ -201,22 +187,6 @@ fn begins(shifts: &[u8], k: usize) -> u64 {
         return NEVER;
     }
     s.begin
-}
-
-fn ended(s: State) -> State
-    ensures { λ r. ⌜ SameReel s r ⌝ }
-{
-    let mut r = s;
-    r.goes_on = false;
-    r
-}
-
-fn undone(s: State) -> State
-    ensures { λ r. ⌜ SameReel s r ⌝ }
-{
-    let mut r = s;
-    r.done = false;
-    r
 }
 
 fn refused(s: State, number: u8) -> State

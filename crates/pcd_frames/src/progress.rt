@@ -3,19 +3,12 @@ ghost use Rattle.command.specs.Text.{Adds};
 ghost use Rattle.pcd_frames.specs.Lines.{progressText};
 use command::put;
 use command::put_field;
+use frames_state::Progress;
 use libc::STDERR_FILENO;
 
 const LINE: usize = 128;
 
 const MEGABYTE: u64 = 1_000_000;
-
-pub struct Progress {
-    // Whether standard error is a terminal.
-    pub terminal: bool,
-    // When the reading began, and when the line was last written, in seconds.
-    pub began: u64,
-    pub shown: u64,
-}
 
 pub fn begin() -> Progress {
     let now = seconds();

@@ -37,12 +37,10 @@ fn main() {
 // Reads the reel, and writes its map.
 fn run(cells: &mut [u8]) -> bool {
     let s = read_all(&mut *cells);
-    let reel = s.reel;
-    let feeder = reel.feeder;
-    let tally = feeder.tally;
+    let tally = s.reel.feeder.tally;
     let told = Told {
-        bytes: reel.taken,
-        strict: reel.strict,
+        bytes: s.reel.taken,
+        strict: s.reel.strict,
         tally: tally,
     };
     picture::show(told, s.map.length, s.map.cell, cells) & s.done
@@ -85,10 +83,9 @@ fn is_strict() -> bool {
 
 // What comes next of the reel, as far as the cell's end, and what is to be done with it.
 fn turn(s: State, buffer: &mut [u8], area: &mut [u8], cells: &mut [u8]) -> State {
-    let reel = s.reel;
-    let next = reel_reading::advance(b"pcd-map", reel, s.map.end, buffer, area);
-    let after = next.reel;
+    let next = reel_reading::advance(b"pcd-map", s.reel, s.map.end, buffer, area);
     let mut r = s;
+    let after = next.reel;
     r.reel = after;
     let event = next.event;
     done_with(event, r, cells)
@@ -121,33 +118,22 @@ fn done_with(event: Event, s: State, cells: &mut [u8]) -> State {
 }
 
 fn complete(s: State, cells: &mut [u8]) -> State {
-    let map = s.map;
-    let reel = s.reel;
-    let feeder = reel.feeder;
-    let tally = feeder.tally;
     let mut r = s;
-    r.map = reel_map::complete(map, tally, cells);
+    r.map = reel_map::complete(s.map, s.reel.feeder.tally, cells);
     r
 }
 
 fn next_cell(s: State, cells: &mut [u8]) -> State {
-    let map = s.map;
-    let reel = s.reel;
-    let feeder = reel.feeder;
-    let tally = feeder.tally;
-    reel_map::mark(map, tally, &mut *cells);
+    let tally = s.reel.feeder.tally;
+    reel_map::mark(s.map, tally, &mut *cells);
     let mut r = s;
-    r.map = reel_map::next(map, tally, cells);
+    r.map = reel_map::next(s.map, tally, cells);
     r
 }
 
 // The last cell ends with the reel.
 fn ended(s: State, cells: &mut [u8]) -> State {
-    let map = s.map;
-    let reel = s.reel;
-    let feeder = reel.feeder;
-    let tally = feeder.tally;
-    reel_map::mark(map, tally, cells);
+    reel_map::mark(s.map, s.reel.feeder.tally, cells);
     let mut r = s;
     r.goes_on = false;
     r

@@ -4,9 +4,9 @@ ghost use Rattle.io.specs.Counts.{Counts};
 use command::put;
 use command::put_field;
 use labelling::Tally;
-use reel_map::put_label;
-use reel_map::put_legend;
-use reel_map::put_rect;
+use map_lines::put_label;
+use map_lines::put_legend;
+use map_lines::put_rect;
 
 // A row has 128 runs at most, of 60 bytes at most each; the heading and the legend are shorter.
 const TEXT: usize = 8192;
@@ -36,13 +36,17 @@ pub(crate) fn show(told: Told, length: u64, last: usize, cells: &[u8]) -> bool {
     if !show_labels(&mut space, length, count) {
         return false;
     }
+    show_cells(&mut space, count, cells)
+}
+
+fn show_cells(text: &mut [u8], count: usize, cells: &[u8]) -> bool {
     if !command::show(
         b"pcd-map",
         b"</g>\n<g transform=\"translate(110 164) scale(6 8)\">\n",
     ) {
         return false;
     }
-    if !show_rows(&mut space, count, cells) {
+    if !show_rows(text, count, cells) {
         return false;
     }
     command::show(b"pcd-map", b"</g>\n</svg>\n")
@@ -74,16 +78,12 @@ fn put_size(out: &mut [u8], count: usize) -> usize {
         b"<svg xmlns=\"http://www.w3.org/2000/svg\" width=\"890\" height=\"",
         rows as u64 * 8 + 176,
     );
-    let styled = put(
-        &mut *out,
-        sized,
-        b"\" font-family=\"sans-serif\" font-size=\"12\">\n<title>Map of a reel</title>\n<style>\
-.c0{fill:#dddddd}.c1{fill:#56b4e9}.c2{fill:#009e73}.c3{fill:#e69f00}.c4{fill:#f0e442}.c5{fill:#d55e00}</style>\n",
-    );
     put(
         out,
-        styled,
-        b"<rect width=\"100%\" height=\"100%\" fill=\"#ffffff\"/>\n<text x=\"10\" y=\"24\" font-size=\"16\">Map of a reel</text>\n",
+        sized,
+        b"\" font-family=\"sans-serif\" font-size=\"12\">\n<title>Map of a reel</title>\n<style>\
+.c0{fill:#dddddd}.c1{fill:#56b4e9}.c2{fill:#009e73}.c3{fill:#e69f00}.c4{fill:#f0e442}.c5{fill:#d55e00}</style>\n\
+<rect width=\"100%\" height=\"100%\" fill=\"#ffffff\"/>\n<text x=\"10\" y=\"24\" font-size=\"16\">Map of a reel</text>\n",
     )
 }
 
@@ -94,20 +94,29 @@ fn put_reading(out: &mut [u8], at: usize, bytes: u64, strict: bool, length: u64)
         b"<text x=\"10\" y=\"44\">bytes of the reel: ",
         bytes,
     );
-    let way = put_way(&mut *out, read, strict);
-    let sized = put_field(&mut *out, way, b"; bytes of a cell: ", length);
+    let way = put_way(&mut *out, read, strict, length);
     put(
         out,
-        sized,
+        way,
         b". A cell shows the first of these that it has:</text>\n",
     )
 }
 
-fn put_way(out: &mut [u8], at: usize, strict: bool) -> usize {
+fn put_way(out: &mut [u8], at: usize, strict: bool, length: u64) -> usize {
     if strict {
-        return put(out, at, b", read by its lead-ins alone");
+        return put_field(
+            out,
+            at,
+            b", read by its lead-ins alone; bytes of a cell: ",
+            length,
+        );
     }
-    put(out, at, b", read by its frames' own sync")
+    put_field(
+        out,
+        at,
+        b", read by its frames' own sync; bytes of a cell: ",
+        length,
+    )
 }
 
 fn put_counts(out: &mut [u8], at: usize, t: Tally) -> usize
@@ -244,14 +253,14 @@ fn put_row(out: &mut [u8], row: u64, first: usize, count: usize, cells: &[u8]) -
     let mut at: usize = 0;
     let mut i = first;
     while i < end {
-        let stop = reel_map::run_end(cells, i, end);
+        let stop = map_cells::run_end(cells, i, end);
         at = put_rect(
             &mut *out,
             at,
             row,
             (i - first) as u64,
             (stop - i) as u64,
-            reel_map::class_at(cells, i),
+            map_cells::class_at(cells, i),
         );
         i = stop;
     }

@@ -4,7 +4,6 @@ mod report;
 mod shifts;
 
 ghost use mathlib.Core.Path.{_≡_};
-ghost use Prim.Native.Nat.{_≤_};
 ghost use lib.ListN.{length};
 use base::format::MAJOR_FRAME;
 use base::refusal::WRONG_LENGTH;
@@ -47,6 +46,13 @@ fn turn() -> bool {
     if !filled(&mut header) {
         return false;
     }
+    record(&header)
+}
+
+// The record that begins so.
+fn record(header: &[u8]) -> bool
+    requires { ⌜ length (now header) ≡ 108 ⌝ }
+{
     let n = number(&header[0..4]) as usize;
     if ROOM < n {
         return false;
@@ -57,23 +63,21 @@ fn turn() -> bool {
         return false;
     }
     let s = shifts::begun(&header[36..100]);
-    let rule = number(&header[100..108]);
-    every_cut(stream, &header[4..36], s, rule);
+    every_cut(stream, &header[4..36], s, number(&header[100..108]));
     true
 }
 
 // Reads the stream by the rule in pieces of each of these eight lengths.
 fn every_cut(stream: &[u8], lengths: &[u8], s: Shifts, rule: u64)
-    requires { ⌜ 32 ≤ length (now lengths) ⌝ }
+    requires { ⌜ length (now lengths) ≡ 32 ⌝ }
 {
-    one_cut(stream, &lengths[0..4], s, rule);
-    one_cut(stream, &lengths[4..8], s, rule);
-    one_cut(stream, &lengths[8..12], s, rule);
-    one_cut(stream, &lengths[12..16], s, rule);
-    one_cut(stream, &lengths[16..20], s, rule);
-    one_cut(stream, &lengths[20..24], s, rule);
-    one_cut(stream, &lengths[24..28], s, rule);
-    one_cut(stream, &lengths[28..32], s, rule);
+    let mut k: usize = 0;
+    while k < 8 {
+        let start = 4 * k;
+        let end = start + 4;
+        one_cut(stream, &lengths[start..end], s, rule);
+        k += 1;
+    }
 }
 
 // Reads the stream in pieces of this length; 0 is no length.
@@ -139,17 +143,25 @@ fn probe(r: Reading, area: &mut [u8]) -> Reading
     shifts::changed(idle(r, area))
 }
 
-// Two calls that leave all as it is: a piece of no bytes is taken, and an area that is a byte too short is refused.
+// Two calls that leave all as it is.
 fn idle(r: Reading, area: &mut [u8]) -> Reading
     requires { ⌜ length (now area) ≡ 16384 ⌝ }
 {
+    short_area(no_bytes(r, &mut *area), area)
+}
+
+// A piece of no bytes is taken.
+fn no_bytes(r: Reading, area: &mut [u8]) -> Reading {
+    let piece = [0u8; 0];
+    answered(r, reader::take(r.tally, &piece, area))
+}
+
+// An area that is a byte too short is refused.
+fn short_area(r: Reading, area: &mut [u8]) -> Reading
+    requires { ⌜ length (now area) ≡ 16384 ⌝ }
+{
     let piece = [0x16u8; 3];
-    let t = r.tally;
-    let taken = reader::take(t, &piece[0..0], area);
-    let next = answered(r, taken);
-    let u = next.tally;
-    let answer = reader::take(u, &piece, &mut area[1..MAJOR_FRAME]);
-    refused(next, answer)
+    refused(r, reader::take(r.tally, &piece, &mut area[1..MAJOR_FRAME]))
 }
 
 // The reading after a call that must take its piece.

@@ -1,5 +1,6 @@
 // Changes of duty among the calls of a reading.
-ghost use Prim.Native.Nat.{_≤_};
+ghost use mathlib.Core.Path.{_≡_};
+ghost use Prim.Native.Nat.{_<_};
 ghost use lib.ListN.{length};
 use crate::Reading;
 use base::refusal::NO_SUCH_OPERATOR;
@@ -19,24 +20,28 @@ pub(crate) struct Shifts {
 
 // Eight numbers of eight bytes.
 pub(crate) fn begun(b: &[u8]) -> Shifts
-    requires { ⌜ 64 ≤ length (now b) ⌝ }
+    requires { ⌜ length (now b) ≡ 64 ⌝ }
 {
-    let operators = [
-        number(&b[0..8]),
-        number(&b[8..16]),
-        number(&b[16..24]),
-        number(&b[24..32]),
-        number(&b[32..40]),
-        number(&b[40..48]),
-        number(&b[48..56]),
-        number(&b[56..64]),
-    ];
+    let mut operators = [0u64; 8];
+    let mut k: usize = 0;
+    while k < 8 {
+        operators[k] = operator(b, k);
+        k += 1;
+    }
     Shifts {
         operators: operators,
         next: 0,
         changed: 0,
         refused: 0,
     }
+}
+
+fn operator(b: &[u8], k: usize) -> u64
+    requires { ⌜ (length (now b) ≡ 64) × (k < 8) ⌝ }
+{
+    let start = 8 * k;
+    let end = start + 8;
+    number(&b[start..end])
 }
 
 // The reading after the next operator is named.

@@ -1,18 +1,14 @@
 // A map of a reel: a cell stands for a stretch of its bytes, and has the highest class of what came of them.
-mod text;
-
 ghost use mathlib.Core.Path.{_≡_};
 ghost use Prim.Native.Nat.{_+_, _*_, _/_, _^_, _<_};
-ghost use lib.ListN.{getD};
-ghost use Rattle.reel_map.specs.Cells.{higher, classOf, seenIn, pairIn, raised, halved, RunEnd, looked, NextPromise};
+ghost use Rattle.map_cells.specs.Cells.{raised};
+ghost use Rattle.reel_map.specs.Drawing.{classOf, seenIn, looked, NextPromise};
 use labelling::Tally;
-pub use text::put_label;
-pub use text::put_legend;
-pub use text::put_rect;
+use map_cells::NOTHING;
+use map_cells::halve;
+use map_cells::raise;
 
-// The classes, by rising rank. Of what a cell has, it shows the highest.
-const NOTHING: u8 = 0;
-
+// The classes above NOTHING, by rising rank. Of what a cell has, it shows the highest.
 const GOOD: u8 = 1;
 
 const PAID: u8 = 2;
@@ -197,79 +193,4 @@ fn class_of(before: Seen, after: Seen) -> u8
         return GOOD;
     }
     NOTHING
-}
-
-fn the_higher(a: u8, b: u8) -> u8
-    ensures { λ r. ⌜ r ≡ higher a b ⌝ }
-{
-    if a <= b {
-        return b;
-    }
-    a
-}
-
-// The cells from one to another have this class at least.
-fn raise(cells: &mut [u8], from: usize, to: usize, class: u8)
-    ensures { λ r. ⌜ now (cells .exit) ≡ raised (now (cells .entry)) from to class ⌝ }
-{
-    let mut i = from;
-    while i < cells.len() {
-        if to < i {
-            return;
-        }
-        cells[i] = the_higher(cells[i], class);
-        i += 1;
-    }
-}
-
-// Joins the cells in pairs.
-fn halve(cells: &mut [u8])
-    ensures { λ r. ⌜ now (cells .exit) ≡ halved (now (cells .entry)) ⌝ }
-{
-    let mut i: usize = 0;
-    while i < cells.len() {
-        cells[i] = pair(cells, i);
-        i += 1;
-    }
-}
-
-fn pair(cells: &[u8], i: usize) -> u8
-    ensures { λ r. ⌜ r ≡ pairIn (now (cells .entry)) i ⌝ }
-{
-    if cells.len() / 2 < i {
-        return NOTHING;
-    }
-    the_higher(at(cells, 2 * i), at(cells, 2 * i + 1))
-}
-
-// A cell's class; nothing is there where the map ends.
-fn at(cells: &[u8], i: usize) -> u8
-    ensures { λ r. ⌜ r ≡ getD (now (cells .entry)) i 0 ⌝ }
-{
-    if i < cells.len() {
-        return cells[i];
-    }
-    NOTHING
-}
-
-// Where a run of equal cells ends that begins here, before `end` at the latest.
-pub fn run_end(cells: &[u8], from: usize, end: usize) -> usize
-    ensures { λ r. ⌜ RunEnd (now (cells .entry)) from end r ⌝ }
-{
-    let class = at(cells, from);
-    let mut i = from;
-    while i < end {
-        if at(cells, i) != class {
-            return i;
-        }
-        i += 1;
-    }
-    i
-}
-
-// The class of a cell.
-pub fn class_at(cells: &[u8], i: usize) -> u8
-    ensures { λ r. ⌜ r ≡ getD (now (cells .entry)) i 0 ⌝ }
-{
-    at(cells, i)
 }

@@ -25,10 +25,10 @@ use Rattle.relocking.specs.declared.Relocked.{Relocked}
 use Rattle.relocking.specs.Relock.{beginning, Move, reads, asks, leads, move, moved, ledBy, RelockPromise}
 use Rattle.feeding.proofs.CallLists.{paid-append, handed-one, joined-one, paid-one, joined-none, paid-none}
 use Rattle.relocking.proofs.ReadingReels.{relocked-append}
-use Rattle.reel_reading.specs.declared.Advanced.{Advanced}
-use Rattle.reel_reading.specs.declared.Event.the-variants.{Cut}
-use Rattle.reel_reading.specs.declared.Reel.{Reel}
-use Rattle.reel_reading.specs.Reading.{blank, Reads, strictly, by-own-sync, Went, StepPromise, SteppedPromise, Stands, isComplete, AdvancePromise, Keeps}
+use Rattle.reel_state.specs.declared.Advanced.{Advanced}
+use Rattle.reel_state.specs.declared.Event.the-variants.{Cut}
+use Rattle.reel_state.specs.declared.Reel.{Reel}
+use Rattle.reel_state.specs.Reading.{blank, Reads, strictly, by-own-sync, Went, StepPromise, SteppedPromise, Stands, isComplete, AdvancePromise, Keeps}
 
 -- ---- one list of calls after another
 

@@ -3,11 +3,11 @@ ghost use mathlib.Core.Path.{_≡_};
 ghost use mathlib.Core.Bool.{false};
 ghost use Prim.Native.Nat.{_+_, _≤_, _<_};
 ghost use lib.ListN.{take, drop};
-ghost use Rattle.reel_reading.specs.Reading.{isComplete, Keeps};
-use crate::Advanced;
-use crate::Event;
-use crate::Reel;
+ghost use Rattle.reel_state.specs.Reading.{isComplete, Keeps};
 use libc::STDIN_FILENO;
+use reel_state::Advanced;
+use reel_state::Event;
+use reel_state::Reel;
 
 // More bytes behind those that were not taken, which go to the front of the buffer; or the next file; or nothing follows.
 pub(crate) fn more(program: &[u8], reel: Reel, buffer: &mut [u8]) -> Advanced

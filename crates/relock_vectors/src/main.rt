@@ -2,7 +2,7 @@
 // makes, with the answers that it worked out by other means.
 mod report;
 
-ghost use Prim.Native.Nat.{_≤_};
+ghost use mathlib.Core.Path.{_≡_};
 ghost use lib.ListN.{length};
 use relocking::Feeder;
 use vectors::filled;
@@ -38,6 +38,13 @@ fn turn() -> bool {
     if !filled(&mut header) {
         return false;
     }
+    record(&header)
+}
+
+// The record that begins so.
+fn record(header: &[u8]) -> bool
+    requires { ⌜ length (now header) ≡ 44 ⌝ }
+{
     let n = number(&header[0..4]) as usize;
     if ROOM < n {
         return false;
@@ -47,23 +54,21 @@ fn turn() -> bool {
     if !filled(&mut *reel) {
         return false;
     }
-    let rule = number(&header[36..44]);
-    every_cut(reel, &header[4..36], rule);
+    every_cut(reel, &header[4..36], number(&header[36..44]));
     true
 }
 
 // Reads the reel by the rule in pieces of each of these eight lengths.
 fn every_cut(reel: &[u8], lengths: &[u8], rule: u64)
-    requires { ⌜ 32 ≤ length (now lengths) ⌝ }
+    requires { ⌜ length (now lengths) ≡ 32 ⌝ }
 {
-    one_cut(reel, &lengths[0..4], rule);
-    one_cut(reel, &lengths[4..8], rule);
-    one_cut(reel, &lengths[8..12], rule);
-    one_cut(reel, &lengths[12..16], rule);
-    one_cut(reel, &lengths[16..20], rule);
-    one_cut(reel, &lengths[20..24], rule);
-    one_cut(reel, &lengths[24..28], rule);
-    one_cut(reel, &lengths[28..32], rule);
+    let mut k: usize = 0;
+    while k < 8 {
+        let start = 4 * k;
+        let end = start + 4;
+        one_cut(reel, &lengths[start..end], rule);
+        k += 1;
+    }
 }
 
 // Reads the reel in pieces of this length; 0 is no length.

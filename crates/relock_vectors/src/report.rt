@@ -1,39 +1,35 @@
 // What is written of a reel.
 use crate::Reading;
 use base::wide;
+use labelling::Framing;
+use labelling::Groups;
+use labelling::Runs;
 use labelling::Tally;
 use vectors::bit;
 use vectors::checksum;
-use vectors::field;
-use vectors::put;
+use vectors::fields;
 
 pub(crate) fn heading(length: usize, piece: u64, rule: u64) {
-    field(b"reel of ", length as u64);
-    field(b" bytes in pieces of ", piece);
-    field(b" by rule ", rule);
-    put(b"\n");
+    let numbers = [length as u64, piece, rule];
+    fields(b"reel of # bytes in pieces of # by rule #\n", &numbers);
 }
 
 // A line for a major frame that is paid: how many bytes of the reel are taken, and the area.
 pub(crate) fn paid(complete: bool, at: u64, area: &[u8]) {
     if complete {
-        field(b"paid at ", at);
-        field(b" area ", checksum(area));
-        put(b"\n");
+        let numbers = [at, checksum(area)];
+        fields(b"paid at # area #\n", &numbers);
     }
 }
 
 pub(crate) fn whole(r: Reading, area: &[u8]) {
-    let t = r.feeder.tally;
     refused(r.refusal);
-    groups(t);
-    framing(t);
-    runs(t);
+    let t = r.feeder.tally;
+    groups(t.groups);
+    framing(t.framing);
+    runs(t.runs);
     kept(t);
-    field(b"lead-ins ", r.feeder.handed);
-    field(b" awaits ", bit(r.feeder.awaits));
-    field(b" area ", checksum(area));
-    put(b"\n");
+    locked(r.feeder.handed, r.feeder.awaits, checksum(area));
 }
 
 // No step here may be refused.
@@ -43,46 +39,50 @@ fn refused(number: u8) {
     }
 }
 
-fn groups(t: Tally) {
-    field(b"bytes ", t.groups.bytes);
-    field(b" fill ", t.groups.fill);
-    field(b" stray ", t.groups.stray);
-    field(b" voted ", t.groups.voted);
-    field(b" split ", t.groups.split);
-    field(b" weak1 ", t.groups.weak.first);
-    field(b" weak2 ", t.groups.weak.second);
-    field(b" weak3 ", t.groups.weak.third);
-    field(b" open ", t.groups.open);
+fn groups(g: Groups) {
+    let numbers = [
+        g.bytes,
+        g.fill,
+        g.stray,
+        g.voted,
+        g.split,
+        g.weak.first,
+        g.weak.second,
+        g.weak.third,
+        g.open,
+    ];
+    fields(
+        b"bytes # fill # stray # voted # split # weak1 # weak2 # weak3 # open #",
+        &numbers,
+    );
 }
 
-fn framing(t: Tally) {
-    field(b" hunted ", t.framing.hunted);
-    field(b" good ", t.framing.good);
-    field(b" damaged ", t.framing.damaged);
-    field(b" unsynced ", t.framing.unsynced);
-    field(b" placed ", t.framing.placed);
+fn framing(f: Framing) {
+    let numbers = [f.hunted, f.good, f.damaged, f.unsynced, f.placed];
+    fields(b" hunted # good # damaged # unsynced # placed #", &numbers);
 }
 
-fn runs(t: Tally) {
-    field(b" majors ", t.runs.majors);
-    field(b" broken ", t.runs.broken);
-    field(b" loose ", t.runs.loose);
-    field(b" building ", t.runs.building);
-    put(b"\n");
+fn runs(r: Runs) {
+    let numbers = [r.majors, r.broken, r.loose, r.building];
+    fields(b" majors # broken # loose # building #\n", &numbers);
 }
 
 // What the tally holds beside the counts.
 fn kept(t: Tally) {
-    field(b"hunting ", bit(t.framing.hunting));
-    field(b" match ", t.framing.matched);
-    field(b" hole ", bit(t.framing.erasure));
-    field(b" copies ", wide(t.groups.first));
-    field(b" ", wide(t.groups.second));
-    field(b" frame ", frame_checksum(t));
-    put(b"\n");
+    let frame = t.frame;
+    let numbers = [
+        bit(t.framing.hunting),
+        t.framing.matched,
+        bit(t.framing.erasure),
+        wide(t.groups.first),
+        wide(t.groups.second),
+        checksum(&frame),
+    ];
+    fields(b"hunting # match # hole # copies # # frame #\n", &numbers);
 }
 
-fn frame_checksum(t: Tally) -> u64 {
-    let frame = t.frame;
-    checksum(&frame)
+// The lock, and the area.
+fn locked(handed: u64, awaits: bool, area: u64) {
+    let numbers = [handed, bit(awaits), area];
+    fields(b"lead-ins # awaits # area #\n", &numbers);
 }

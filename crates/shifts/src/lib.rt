@@ -1,35 +1,23 @@
 // Who is on duty from which byte of a reel on: a text with a line `BYTE OPERATOR` for each shift, by rising bytes.
-ghost use mathlib.Core.Path.{_≡_};
 ghost use Prim.Native.Nat.{_≤_};
 ghost use lib.ListN.{length};
 ghost use Rattle.command.specs.Text.{Adds};
 ghost use Rattle.io.specs.Counts.{Counts};
-ghost use Rattle.shifts.specs.Lines.{ShiftOf, faultText};
+ghost use Rattle.shifts.specs.Lines.{faultText};
 use command::Filled;
 use command::Parsed;
 use command::put;
 use command::put_field;
-
-const LIMIT: u64 = 1 << 40;
-
-const LAST_OPERATOR: u64 = 7;
+use shift_line::LIMIT;
+use shift_line::NO_OPERATOR;
+use shift_line::NOT_RISING;
+use shift_line::NOT_TWO_NUMBERS;
+use shift_line::Shift;
+use shift_line::TOO_FAR;
+use shift_line::shift_of;
+use shift_line::wrong;
 
 const LINE: usize = 256;
-
-const NOT_TWO_NUMBERS: u8 = 1;
-
-const NO_OPERATOR: u8 = 2;
-
-const NOT_RISING: u8 = 3;
-
-const TOO_FAR: u8 = 4;
-
-// A shift, or what is wrong with its line: 0 for nothing. Beside a fault the numbers are 0.
-pub struct Shift {
-    pub fault: u8,
-    pub begin: u64,
-    pub operator: u64,
-}
 
 // Reads the lines of a file; a line on standard error says where it cannot be read, is longer than the room, or has a line that is wrong.
 pub fn read(program: &[u8], path: &[u8], text: &mut [u8]) -> Filled
@@ -160,35 +148,6 @@ fn parsed(begin: u64, operator: Parsed, least: u64) -> Shift {
         Parsed::Value(o) => {
             return shift_of(begin, o, least);
         }
-    }
-}
-
-fn shift_of(begin: u64, operator: u64, least: u64) -> Shift
-    ensures { λ r. ⌜ ShiftOf begin operator least r ⌝ }
-{
-    if LAST_OPERATOR < operator {
-        return wrong(NO_OPERATOR);
-    }
-    if begin < least {
-        return wrong(NOT_RISING);
-    }
-    if LIMIT < begin {
-        return wrong(TOO_FAR);
-    }
-    Shift {
-        fault: 0,
-        begin: begin,
-        operator: operator,
-    }
-}
-
-fn wrong(fault: u8) -> Shift
-    ensures { λ r. ⌜ r .fault ≡ fault ⌝ }
-{
-    Shift {
-        fault: fault,
-        begin: 0,
-        operator: 0,
     }
 }
 

@@ -9,35 +9,45 @@ use labelling::Tally;
 use vectors::bit;
 use vectors::fields;
 
-// Who is on duty, among the numbers of a tally.
-const DUTY: usize = 31;
-
 pub(crate) fn line(form: &[u8], picks: &[u8], t: Tally, a: Answer)
     requires { ⌜ length (now picks) ≡ 16 ⌝ }
 {
     let u = a.tally;
-    let f = t.frame;
-    let g = u.frame;
-    let framed = same_frame(&f, &g);
-    let before = numbers(t);
     let after = numbers(u);
-    let mut back = after;
-    back[DUTY] = before[DUTY];
     let called = [
         a.refusal,
         a.taken,
         a.complete,
         a.changed,
-        bit(framed & alike(&before, &after)),
-        bit(framed & alike(&before, &back)),
+        bit(is_same(t, u)),
+        bit(is_same(t, with_duty(u, t.operators.duty))),
     ];
     let mut shown = [0u64; 16];
     pick(picks, &called, &after, &mut shown);
     fields(form, &shown);
 }
 
+// The tally with this operator on duty.
+fn with_duty(t: Tally, duty: u64) -> Tally {
+    let mut r = t;
+    r.operators.duty = duty;
+    r
+}
+
+fn is_same(t: Tally, u: Tally) -> bool {
+    let a = t.frame;
+    let b = u.frame;
+    same_frame(&a, &b) & same_numbers(t, u)
+}
+
 fn same_frame(a: &[u8; 128], b: &[u8; 128]) -> bool {
     vectors::differing(a, b) == 0
+}
+
+fn same_numbers(t: Tally, u: Tally) -> bool {
+    let a = numbers(t);
+    let b = numbers(u);
+    alike(&a, &b)
 }
 
 fn alike(a: &[u64], b: &[u64]) -> bool {

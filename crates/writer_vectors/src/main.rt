@@ -42,6 +42,10 @@ fn turn() -> bool {
         room: number(&bytes[2..4]) as usize,
         spacing: number(&bytes[4..12]),
     };
+    run(h)
+}
+
+fn run(h: Header) -> bool {
     if h.kind == LEAD_IN {
         return single::lead_in(h.spacing, h.room);
     }

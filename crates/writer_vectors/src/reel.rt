@@ -4,6 +4,7 @@ ghost use Prim.Native.Nat.{_*_, _≤_};
 ghost use lib.ListN.{length};
 use crate::report;
 use base::format::MAJOR_FRAME;
+use base::format::MINOR_FRAME;
 use labelling::Tally;
 use reader::Taken;
 use vectors::filled;
@@ -30,8 +31,15 @@ pub(crate) fn written_and_read(lead_spacing: u64, majors: usize) -> bool {
     if !filled(&mut *spacings) {
         return false;
     }
+    with_frames(lead_spacing, spacings)
+}
+
+// The minor frames that follow, one for each spacing; false where they do not.
+fn with_frames(lead_spacing: u64, spacings: &[u8]) -> bool
+    requires { ⌜ length (now spacings) ≤ 512 ⌝ }
+{
     let mut frame_space = [0u8; 65536];
-    let frames = &mut frame_space[0..MAJOR_FRAME * majors];
+    let frames = &mut frame_space[0..MINOR_FRAME * spacings.len()];
     if !filled(&mut *frames) {
         return false;
     }

@@ -1,7 +1,7 @@
 // One call of the writer, and the line about it.
 ghost use Prim.Native.Nat.{_≤_};
 use crate::report;
-use vectors::field;
+use vectors::fields;
 use vectors::others;
 
 // More than any output that a record asks for, 128 × 66 bytes at most, so that a write past its end would show.
@@ -15,14 +15,20 @@ pub(crate) fn lead_in(spacing: u64, room: usize) -> bool {
     if SPACE < room {
         return false;
     }
+    let numbers = [spacing, room as u64];
+    fields(b"lead-in spacing # output #", &numbers);
+    one_lead_in(spacing, room);
+    true
+}
+
+fn one_lead_in(spacing: u64, room: usize)
+    requires { ⌜ room ≤ 8576 ⌝ }
+{
     let mut array = [0xA5u8; 8576];
     let space: &mut [u8] = &mut array;
     let answer = writer::write_lead_in(spacing, &mut space[0..room]);
-    field(b"lead-in spacing ", spacing);
-    field(b" output ", room as u64);
     report::answered(answer, others(space, BEFORE));
     report::short_output(space, room);
-    true
 }
 
 // A minor frame that follows its header in the input; false where it does not.

@@ -1,6 +1,6 @@
 -- `pcd_frames::done_with` meets its contract, event by event. Assumes nothing.
 use mathlib.Core.Path.{refl, ap}
-use Rattle.reel_reading.specs.Reading.{isComplete}
+use Rattle.reel_state.specs.Reading.{isComplete}
 use Rattle.pcd_frames.proofs.Laws.{settled, shifted, due, wrote}
 use borrow.Author.Needs.{needs}
 use Rattle.pcd_frames.proofs.done_with.Statement.{statement}

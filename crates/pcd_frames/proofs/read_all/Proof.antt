@@ -1,7 +1,7 @@
 -- `pcd_frames::read_all` meets its contract: at each turn all that is paid is written, and the turns that are left fall. Assumes nothing.
 use borrow.Author.Needs.{needs}
 use native.Mathlib.Omega.{arith}
-use Rattle.pcd_frames.specs.Frames.{AllWritten}
+use Rattle.frames_state.specs.Frames.{AllWritten}
 use Rattle.pcd_frames.proofs.Laws.{all-read}
 use Rattle.pcd_frames.proofs.read_all.Statement.{statement}
 use Rattle.pcd_frames.proofs.read_all.Tie as tie

@@ -2,7 +2,7 @@
 use native.Mathlib.Omega.{arith}
 use denote.Ref.{now}
 use borrow.Author.Needs.{needs}
-use Rattle.reel_map.proofs.Cells.{next-none, next-goes, next-joins}
+use Rattle.reel_map.proofs.NextCell.{next-none, next-goes, next-joins}
 use Rattle.reel_map.proofs.next.Statement.{statement}
 use Rattle.reel_map.proofs.next.Tie as tie
 
