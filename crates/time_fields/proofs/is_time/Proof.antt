@@ -1,10 +1,10 @@
--- `time_code::is_time` meets its contract: the numbers that it tests are the fields of the seven bytes. Assumes nothing.
+-- `time_fields::is_time` meets its contract: the numbers that it tests are the fields of the seven bytes. Assumes nothing.
 use mathlib.Core.List.{List, [], _∷_}
 use Prim.Native.Nat.{ℕ}
 use native.Mathlib.Omega.{arith}
-use Rattle.time_code.proofs.Codes.{tested}
-use Rattle.time_code.proofs.is_time.Statement.{statement}
-use Rattle.time_code.proofs.is_time.Tie as tie
+use Rattle.time_fields.proofs.Fields.{tested}
+use Rattle.time_fields.proofs.is_time.Statement.{statement}
+use Rattle.time_fields.proofs.is_time.Tie as tie
 
 is-decimal-requires : tie.Need-is-decimal-requires
 is-decimal-requires c κs = tt

@@ -1,10 +1,10 @@
--- `time_code::instant` meets its contract: sums of half bytes, each by its weight. Assumes nothing.
+-- `time_fields::instant` meets its contract: sums of half bytes, each by its weight. Assumes nothing.
 use mathlib.Core.List.{List, [], _∷_}
 use Prim.Native.Nat.{ℕ}
 use native.Mathlib.Omega.{arith}
-use Rattle.time_code.proofs.Fields.{instant-read}
-use Rattle.time_code.proofs.instant.Statement.{statement}
-use Rattle.time_code.proofs.instant.Tie as tie
+use Rattle.time_fields.proofs.Fields.{instant-read}
+use Rattle.time_fields.proofs.instant.Statement.{statement}
+use Rattle.time_fields.proofs.instant.Tie as tie
 
 day-requires : tie.Need-day-requires
 day-requires c κs = tt

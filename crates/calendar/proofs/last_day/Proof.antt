@@ -1,7 +1,7 @@
--- `time_code::year::last_day` meets its contract: 366 or 365 by the definition's test. Assumes nothing.
+-- `calendar::last_day` meets its contract: 366 or 365 by the definition's test. Assumes nothing.
 use mathlib.Core.Path.{sym, _∙_}
-use Rattle.time_code.proofs.year.last_day.Statement.{statement}
-use Rattle.time_code.proofs.year.last_day.Tie as tie
+use Rattle.calendar.proofs.last_day.Statement.{statement}
+use Rattle.calendar.proofs.last_day.Tie as tie
 
 is-leap-requires : tie.Need-is-leap-requires
 is-leap-requires c κs = tt
