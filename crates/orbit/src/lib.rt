@@ -7,18 +7,3 @@ pub mod clock;
 pub mod ephemeris;
 pub mod gyro_drift;
 pub mod temperatures;
-mod words;
-
-ghost use Prim.Native.Nat.{_+_, _≤_};
-ghost use lib.ListN.{length};
-ghost use Rattle.fixed_point.specs.Promise.{ScaledPromise};
-ghost use Rattle.orbit.specs.Records.{word};
-use words::count32;
-
-// The count at four places from this one on, with so many binary places after the point.
-fn value(column: &[u8], place: usize, places: u8) -> f64
-    requires { ⌜ place + 4 ≤ length (now column) ⌝ }
-    ensures { λ r. ⌜ ScaledPromise places (word (now (column .entry)) place) r ⌝ }
-{
-    fixed_point::scaled(count32(column, place), places)
-}
