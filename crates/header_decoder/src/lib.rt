@@ -3,7 +3,7 @@
 mod tables;
 
 ghost use mathlib.Core.Path.{_≡_};
-ghost use Prim.Native.Nat.{_*_, _≤_, _<_, _^_};
+ghost use Prim.Native.Nat.{_*_, _<_, _^_};
 ghost use lib.ListN.{getD};
 ghost use Rattle.header_code.specs.Field.{_⊕_};
 ghost use Rattle.header_code.specs.Decoder.{digit, cell, products, quotients, roots, places, lifted, one, two, from-sums, from-values, located};

@@ -33,7 +33,8 @@ put-eight x b0 b1 b2 b3 b4 b5 b6 b7 =
     (ap₂ _∷_ (omega arith) (ap (λ (w : List ℕ). b2 ∷ b3 ∷ b4 ∷ w) (ap₂ _∷_ (omega arith) (ap₂ _∷_ (omega arith) (ap₂ _∷_ (omega arith) refl)))))
 
 pub put-placed : (x : ℕ) (h : List ℕ) → length h ≡ 8
-    → set (set (set (set (set h 0 (x / 2 ^ 32 % 256)) 1 (x / 2 ^ 24 % 256)) 5 (x / 2 ^ 16 % 256)) 6 (x / 2 ^ 8 % 256)) 7 (x % 256) ≡ placed (symbolsOf 10 x) h
+    → set (set (set (set (set h 0 (x / 2 ^ 32 % 256)) 1 (x / 2 ^ 24 % 256)) 5 (x / 2 ^ 16 % 256)) 6 (x / 2 ^ 8 % 256)) 7 (x % 256)
+    ≡ placed (symbolsOf 10 x) h
 put-placed x h l =
     let at : ℕ → ℕ = λ i. getD h i 0 in
     subst

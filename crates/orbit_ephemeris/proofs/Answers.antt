@@ -17,15 +17,16 @@ module _ (cycle : List ℕ) (y k : ℕ) where
   abbrev i : ℕ
   i = recordInstant (instantOf y cycle) k
 
-  pub ephemeris-refused : (n : ℕ) (r : Ephemeris) → n ≡ refusal (datedLines cycle y k) → (n ≡ 0 → ⊥) → r ≡ noEphemeris n → EphemerisPromise cycle y k r
+  pub ephemeris-refused : (n : ℕ) (r : Ephemeris) → n ≡ refusal (datedLines cycle y k) → (n ≡ 0 → ⊥) → r ≡ noEphemeris n
+      → EphemerisPromise cycle y k r
   unfolding ephemerisOf
   ephemeris-refused n r e z f =
       let a = is-refused (λ (u : Ephemeris). u .refusal) noEphemeris (λ m. refl) (datedLines cycle y k)
       (ephemerisIn i (columnOf cycle k) (ephemerisPlace k)) n r e z f in
       record { answer = a .0; in-step = λ q. absurd (a .1 q); exact = λ q. absurd (a .1 q) }
 
-  pub ephemeris-given : (c : List ℕ) (p t : ℕ) (r : Ephemeris) → refusal (datedLines cycle y k) ≡ 0 → c ≡ columnOf cycle k → p ≡ ephemerisPlace k → t ≡ i
-      → EphemerisIn t c p r → EphemerisPromise cycle y k r
+  pub ephemeris-given : (c : List ℕ) (p t : ℕ) (r : Ephemeris) → refusal (datedLines cycle y k) ≡ 0 → c ≡ columnOf cycle k → p ≡ ephemerisPlace k
+      → t ≡ i → EphemerisIn t c p r → EphemerisPromise cycle y k r
   unfolding ephemerisOf
   ephemeris-given c p t r e f g h q =
       let is : EphemerisIn i (columnOf cycle k) (ephemerisPlace k) r = rw (f, g, h) at q in

@@ -17,9 +17,10 @@ module _ (cycle : List ℕ) (y k : ℕ) where
       → TemperaturesPromise cycle y k r
   unfolding temperaturesOf
   temperatures-refused n r e z f =
+      let own = clearLine (columnOf cycle k) in
       let a = is-refused (λ (u : Temperatures). u .refusal) noTemperatures (λ m. refl) (cycleLines cycle y k) _ n r e z f in
       record {
-        answer = a .0 ∙ sym (answered-append noTemperatures (cycleLines cycle y k) (clearLine (columnOf cycle k)) (temperaturesIn (columnOf cycle k)));
+        answer = a .0 ∙ sym (answered-append noTemperatures (cycleLines cycle y k) own (temperaturesIn (columnOf cycle k)));
         exact = λ q. absurd (a .1 q);
       }
 

@@ -35,7 +35,8 @@ returns c =
     let part = gathered .before .before in
     let s = part .before .before in
     let body = now (s .args .body) in
-    let is = column-is body (s .args .k) (replicate 128 0) _ (s .pre .0) (s .pre .1) (length-replicate {A = ℕ} 128 0) (gathered .gather .ensures .after) in
+    let wide = length-replicate {A = ℕ} 128 0 in
+    let is = column-is body (s .args .k) (replicate 128 0) _ (s .pre .0) (s .pre .1) wide (gathered .gather .ensures .after) in
     (is, ap length is ∙ column-length body (s .args .k))
 
 pub column-spec : {M : Type 1} → statement M

@@ -19,7 +19,8 @@ one-requires c κs = search needs
 returns : tie.Need-returns
 returns c =
     let determined = c .before .before in
-    one-wrong _ _ _ _ _ _ _ _ (determined .before .before .product .ensures .is) (determined .before .product2 .ensures .is) (determined .plus .ensures .is)
+    let squared = determined .before in
+    one-wrong _ _ _ _ _ _ _ _ (squared .before .product .ensures .is) (squared .product2 .ensures .is) (determined .plus .ensures .is)
     (c .before .if1 .taken) (c .one .ensures)
 
 two-requires : tie.Need-two-requires
@@ -28,7 +29,8 @@ two-requires c κs = search needs
 returns-2 : tie.Need-returns-2
 returns-2 c =
     let determined = c .before .before in
-    two-wrong _ _ _ _ _ _ _ _ (determined .before .before .product .ensures .is) (determined .before .product2 .ensures .is) (determined .plus .ensures .is)
+    let squared = determined .before in
+    two-wrong _ _ _ _ _ _ _ _ (squared .before .product .ensures .is) (squared .product2 .ensures .is) (determined .plus .ensures .is)
     (c .before .if1 .left) (c .two .ensures)
 
 pub from-values-spec : {M : Type 1} → statement M

@@ -1,7 +1,7 @@
 -- `header_symbols::weigh` meets its contract. The loop's invariant:
 -- the count is that of the last `place` symbols, and `rest` is what stands above them. Assumes nothing.
 use mathlib.Core.Path.{_≡_, refl, ap, _∙_}
-use Prim.Native.Nat.{ℕ, _-_, _/_, _%_, _^_, _≤_}
+use Prim.Native.Nat.{ℕ, _-_, _/_, _^_, _≤_}
 use native.Mathlib.Omega.{arith}
 use Rattle.header_code.specs.Code.{weight}
 use Rattle.header_code.specs.Symbols.{symbolsOf}
@@ -10,7 +10,8 @@ use Rattle.header_symbols.proofs.weigh.Statement.{statement}
 use Rattle.header_symbols.proofs.weigh.Tie as tie
 
 abbrev Inv-loop : tie.InvT-loop
-Inv-loop word count₀ rest₀ place₀ count rest place = (place ≤ 10) × (count ≤ place) × (rest ≡ word / 16 ^ place) × (count ≡ weight (symbolsOf place word))
+Inv-loop word count₀ rest₀ place₀ count rest place =
+    (place ≤ 10) × (count ≤ place) × (rest ≡ word / 16 ^ place) × (count ≡ weight (symbolsOf place word))
 
 abbrev μ-loop : tie.MeasureT-loop
 μ-loop word count₀ rest₀ place₀ count rest place = 10 - place

@@ -37,7 +37,8 @@ returns-2 c =
     let passed = gathered .before in
     let told = passed .before in
     let a = told .before .before .args in
-    clock-given (now (a .body)) (a .year) _ _ (sym (told .cycle-refusal .ensures) ∙ passed .if1 .left) (gathered .column .ensures .0) (c .in-column .ensures)
+    clock-given (now (a .body)) (a .year) _ _ (sym (told .cycle-refusal .ensures) ∙ passed .if1 .left) (gathered .column .ensures .0)
+    (c .in-column .ensures)
 
 pub read-spec : {M : Type 1} → statement M
 read-spec =

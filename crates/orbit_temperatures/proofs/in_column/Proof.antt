@@ -15,7 +15,8 @@ none-requires c κs = search needs
 returns : tie.Need-returns
 returns c =
     let tested = c .before .before in
-    temperatures-unclear (now (tested .before .before .args .column)) _ _ (tested .upper-clear .ensures) (not-true _ (c .before .if1 .taken)) (c .none .ensures)
+    temperatures-unclear (now (tested .before .before .args .column)) _ _ (tested .upper-clear .ensures) (not-true _ (c .before .if1 .taken))
+    (c .none .ensures)
 
 celsius-requires : tie.Need-celsius-requires
 celsius-requires c κs = search needs
