@@ -3,10 +3,10 @@ use mathlib.Core.Bool.{Bool, _&&_}
 use Prim.Native.Nat.{ℕ, zero, suc, _+_, _*_, _^_}
 use lib.Dec.{T, eqb}
 use lib.ListN.{getD}
-use Rattle.header_code.specs.Field.{_⊕_}
-use Rattle.header_code.specs.Decoder.{products, quotients, roots, sixths, places, syndromes, lifted, one, both, from-root, from-sums, two}
-use Rattle.header_code.specs.Decoder.{by-determinant, from-values, located}
-use Rattle.header_code.proofs.Every.{all}
+use Rattle.header_patterns.specs.Field.{_⊕_}
+use Rattle.header_patterns.specs.Decoder.{products, quotients, roots, sixths, places, syndromes, lifted, one, both, from-root, from-sums, two}
+use Rattle.header_patterns.specs.Decoder.{by-determinant, from-values, located}
+use Rattle.header_patterns.proofs.Every.{all}
 
 -- whichever at most k of the last n symbols are wrong: so is the number, of which the digits so far are given, and so is the syndrome
 unfoldable pub found : ℕ → ℕ → ℕ → ℕ → Bool
