@@ -9,12 +9,12 @@ use lib.IntN.{ℤ}
 use lib.Signed.{mag}
 use mir.Syntax.{w64}
 use mir.Val.{toZ, ofZ}
-use Rattle.orbit.proofs.Columns.{as-returned}
-use Rattle.orbit.specs.declared.temperatures.Temperatures.{Temperatures}
-use Rattle.orbit.specs.declared.gyro_drift.GyroDrift.{GyroDrift}
-use Rattle.orbit.specs.declared.attitude.Attitude.{Attitude}
-use Rattle.orbit.specs.declared.clock.Clock.{Clock}
-use Rattle.orbit.specs.declared.ephemeris.Ephemeris.{Ephemeris}
+use Rattle.orbit_attitude.proofs.Columns.{as-returned}
+use Rattle.orbit_temperatures.specs.declared.Temperatures.{Temperatures}
+use Rattle.orbit_gyro_drift.specs.declared.GyroDrift.{GyroDrift}
+use Rattle.orbit_attitude.specs.declared.Attitude.{Attitude}
+use Rattle.orbit_clock.specs.declared.Clock.{Clock}
+use Rattle.orbit_ephemeris.specs.declared.Ephemeris.{Ephemeris}
 use Rattle.book_api.specs.Records.{unless, degrees, drifts, parameters, terms, components}
 use Rattle.book_api.specs.Records.{TemperaturesCrossed, DriftCrossed, AttitudeCrossed, ClockCrossed, EphemerisCrossed}
 

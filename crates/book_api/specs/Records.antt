@@ -7,11 +7,11 @@ use Prim.Native.Nat.{ℕ}
 use lib.Dec.{eqb}
 use lib.Ieee.{Float}
 use lib.IntN.{ℤ}
-use Rattle.orbit.specs.declared.temperatures.Temperatures.{Temperatures}
-use Rattle.orbit.specs.declared.gyro_drift.GyroDrift.{GyroDrift}
-use Rattle.orbit.specs.declared.attitude.Attitude.{Attitude}
-use Rattle.orbit.specs.declared.clock.Clock.{Clock}
-use Rattle.orbit.specs.declared.ephemeris.Ephemeris.{Ephemeris}
+use Rattle.orbit_temperatures.specs.declared.Temperatures.{Temperatures}
+use Rattle.orbit_gyro_drift.specs.declared.GyroDrift.{GyroDrift}
+use Rattle.orbit_attitude.specs.declared.Attitude.{Attitude}
+use Rattle.orbit_clock.specs.declared.Clock.{Clock}
+use Rattle.orbit_ephemeris.specs.declared.Ephemeris.{Ephemeris}
 
 -- what a lent place holds afterwards
 abbrev pub unless : {A : Type 0} → ℕ → A → A → A

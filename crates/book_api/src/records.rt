@@ -1,5 +1,9 @@
 // The records of a cycle. The answer is the number of the refusal, 0 for none; a refusal writes nothing.
-ghost use Rattle.orbit.specs.Records.{temperaturesOf, gyroDriftOf, attitudeOf, clockOf, ephemerisOf};
+ghost use Rattle.orbit_temperatures.specs.Record.{temperaturesOf};
+ghost use Rattle.orbit_gyro_drift.specs.Record.{gyroDriftOf};
+ghost use Rattle.orbit_attitude.specs.Record.{attitudeOf};
+ghost use Rattle.orbit_clock.specs.Record.{clockOf};
+ghost use Rattle.orbit_ephemeris.specs.Record.{ephemerisOf};
 ghost use Rattle.book_api.specs.Records.{TemperaturesCrossed, DriftCrossed, AttitudeCrossed, ClockCrossed, EphemerisCrossed};
 
 // The four temperatures of a major frame, in degrees Celsius.

@@ -18,7 +18,7 @@ use Rattle.time_code.specs.Fields.{day, hour, minute, second, millisecond, sixt
 use Rattle.time_code.specs.declared.Decoded.{Decoded}
 use Rattle.time_code.specs.declared.Decoded.the-variants as time
 use Rattle.time_code.proofs.Codes.{to-accepted}
-use Rattle.time_code.proofs.Fields.{Digits, to-digits, InRange, to-range}
+use Rattle.time_fields.proofs.Fields.{Digits, to-digits, InRange, to-range}
 use Rattle.word72_column.specs.Columns.{gathered, bears, timed, columnKind}
 use Rattle.word72_column.specs.declared.ColumnKind.the-variants as column
 use Rattle.cycle.specs.Cycle.{cycleLength, allNumbered, answersKind, isKind, isMajor, isCycle, timeBytes, instantIn, instantOf}

@@ -13,8 +13,8 @@ use Rattle.header_code.specs.Field.{_⊕_}
 use Rattle.header_code.specs.Code.{Word, end, symbol, weight}
 use Rattle.header_code.specs.Symbols.{numberOf, combined}
 use Rattle.header_code.specs.Decoder.{syndromes, located}
-use Rattle.header_code.proofs.Every.{all, each}
-use Rattle.header_code.proofs.Patterns.{found, all-found}
+use Rattle.header_patterns.proofs.Every.{all, each}
+use Rattle.header_patterns.proofs.Patterns.{found, all-found}
 use Rattle.header_code.proofs.Sums.{assoc}
 use Rattle.header_code.proofs.Words.{length-word}
 use Rattle.header_code.proofs.Syndromes.{syndrome, is-syndrome}

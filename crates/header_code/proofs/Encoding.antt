@@ -10,7 +10,7 @@ use Rattle.header_code.specs.Field.{_⊕_}
 use Rattle.header_code.specs.Code.{Word, end, symbol, CodeWord, add}
 use Rattle.header_code.specs.Symbols.{symbolsOf, combined}
 use Rattle.header_code.specs.Decoder.{syndromes, checks}
-use Rattle.header_code.proofs.Every.{same2}
+use Rattle.header_patterns.proofs.Every.{same2}
 use Rattle.header_code.proofs.Sums.{assoc}
 use Rattle.header_code.proofs.Words.{length-word, add-word}
 use Rattle.header_code.proofs.Symbols.{symbols-word, symbols-sum}

@@ -6,7 +6,7 @@ use native.Mathlib.Omega.{arith}
 use lib.Bits.{xor-lt}
 use lib.Dec.{T, eqb, ltb, ltb→lt, lit<}
 use Rattle.header_code.specs.Field.{_⊕_, timesX, timesBits, times, power}
-use Rattle.header_code.proofs.Every.{each, same2}
+use Rattle.header_patterns.proofs.Every.{each, same2}
 use Rattle.header_code.proofs.Sums.{swap}
 
 pub sum-lt : (a b : ℕ) → a < 16 → b < 16 → (a ⊕ b) < 16

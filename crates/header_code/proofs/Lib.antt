@@ -1,5 +1,3 @@
-pub mod Every
-pub mod Patterns
 pub mod Sums
 pub mod Field
 pub mod Words

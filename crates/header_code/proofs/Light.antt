@@ -12,7 +12,7 @@ use Rattle.header_code.specs.Code.{weight}
 use Rattle.header_code.specs.Symbols.{symbolsOf}
 use Rattle.header_code.specs.Decoder.{cell, products, quotients, roots, sixths, places, lifted, one, both, from-root, from-sums, two, by-determinant}
 use Rattle.header_code.specs.Decoder.{from-values, located}
-use Rattle.header_code.proofs.Every.{all, each, each2}
+use Rattle.header_patterns.proofs.Every.{all, each, each2}
 use Rattle.header_code.proofs.Field.{sum-lt}
 use Rattle.header_code.proofs.Words.{weight-add-le}
 use Rattle.header_code.proofs.Symbols.{symbols-word, symbols-sum}

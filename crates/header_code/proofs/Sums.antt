@@ -6,7 +6,7 @@ use native.Mathlib.Omega.{arith}
 use lib.Arith.{bin-ind}
 use lib.Bits.{differ, xor-step, xor-shr, xor-mod, xor-comm, xor-self, xor-zero-r}
 use Rattle.header_code.specs.Field.{_⊕_}
-use Rattle.header_code.proofs.Every.{same2}
+use Rattle.header_patterns.proofs.Every.{same2}
 
 bit : (a : ℕ) → a % 2 < 2
 bit a = mod-lt a (zero-lt-suc 1)

@@ -8,7 +8,7 @@ use Rattle.header_code.specs.Field.{_⊕_, timesX, times, power}
 use Rattle.header_code.specs.Code.{Word, end, symbol, value, CodeWord, add}
 use Rattle.header_code.specs.Symbols.{combined, packed}
 use Rattle.header_code.specs.Decoder.{syndromes}
-use Rattle.header_code.proofs.Every.{same2}
+use Rattle.header_patterns.proofs.Every.{same2}
 use Rattle.header_code.proofs.Field.{times-lt}
 use Rattle.header_code.proofs.Words.{length-word, value-lt, value-add}
 use Rattle.header_code.proofs.Symbols.{packed-sum}

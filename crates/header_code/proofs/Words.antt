@@ -9,7 +9,7 @@ use lib.ListN.{length}
 use borrow.Author.Tests.{eq-eqb}
 use Rattle.header_code.specs.Field.{_⊕_, times, power}
 use Rattle.header_code.specs.Code.{Word, end, symbol, value, distance, add, weight}
-use Rattle.header_code.proofs.Every.{same2}
+use Rattle.header_patterns.proofs.Every.{same2}
 use Rattle.header_code.proofs.Sums.{swap, undo}
 use Rattle.header_code.proofs.Field.{sum-lt, times-lt, times-sum}
 

@@ -9,7 +9,7 @@ use Rattle.word72_items.specs.declared.Form.{Form}
 use Rattle.word72_items.specs.declared.Form.the-variants.{Count, TwelveBit, Flags, Number, Time, Fill}
 use Rattle.word72_items.specs.declared.Item.{Item}
 use Rattle.word72_items.specs.ItemTable.{itemOf, entry}
-use Rattle.orbit.specs.Records.{ephemerisPlace}
+use Rattle.orbit_ephemeris.specs.Record.{ephemerisPlace}
 
 -- forms by 01's names
 abbrev pub isCount : Form → Bool

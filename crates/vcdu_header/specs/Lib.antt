@@ -1,4 +1,3 @@
 pub mod Header
 pub mod Answers
 pub mod Promise
-pub mod Steps

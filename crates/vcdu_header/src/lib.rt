@@ -1,9 +1,5 @@
 // The check symbols of a VCDU header (paper 02, request 11; the book, appendix B): written, checked, and used to repair a header in which up
 // to two of the ten symbols are wrong. The 24-bit counter, bytes 2 to 4, is not protected.
-mod decoder;
-mod symbols;
-mod tables;
-
 ghost use Rattle.vcdu_header.specs.Promise.{EncodePromise, CheckPromise, RepairPromise};
 use base::refusal::NO_CODE_WORD;
 use base::refusal::NOT_A_HEADER;
@@ -31,8 +27,8 @@ pub fn encode(header: &mut [u8]) -> u8
     if header.len() != HEADER {
         return NOT_A_HEADER;
     }
-    let word = symbols::pack(header);
-    let checks = symbols::check_symbols(word);
+    let word = header_symbols::pack(header);
+    let checks = header_symbols::check_symbols(word);
     header[6] = (checks / 256) as u8;
     header[7] = (checks % 256) as u8;
     0
@@ -45,8 +41,8 @@ pub fn check(header: &[u8]) -> Checked
     if header.len() != HEADER {
         return Checked::Refused(NOT_A_HEADER);
     }
-    let word = symbols::pack(header);
-    if symbols::syndrome(word) == 0 {
+    let word = header_symbols::pack(header);
+    if header_symbols::syndrome(word) == 0 {
         return Checked::Good;
     }
     Checked::Bad
@@ -60,16 +56,16 @@ pub fn repair(header: &mut [u8]) -> Repaired
     if header.len() != HEADER {
         return Repaired::Refused(NOT_A_HEADER);
     }
-    let word = symbols::pack(header);
-    let left = symbols::syndrome(word);
+    let word = header_symbols::pack(header);
+    let left = header_symbols::syndrome(word);
     if left == 0 {
         return Repaired::Corrected(0);
     }
-    let errors = decoder::located(left);
+    let errors = header_decoder::located(left);
     // Where the symbols that are located among the ten do not explain the syndrome, an error lies in the virtual fill or there are three.
-    if symbols::syndrome(errors) != left {
+    if header_symbols::syndrome(errors) != left {
         return Repaired::Refused(NO_CODE_WORD);
     }
-    symbols::put(header, word ^ errors);
-    Repaired::Corrected(symbols::weigh(errors))
+    header_symbols::put(header, word ^ errors);
+    Repaired::Corrected(header_symbols::weigh(errors))
 }

@@ -1,0 +1,58 @@
+-- `orbit_gyro_drift::read` meets its contract. Assumes nothing.
+use mathlib.Core.Path.{sym, _∙_}
+use denote.Ref.{now}
+use Rattle.cycle_records.proofs.Known.{dated-cycle}
+use Rattle.orbit_gyro_drift.proofs.Answers.{drift-refused, drift-given}
+use borrow.Author.Needs.{needs}
+use Rattle.orbit_gyro_drift.proofs.read.Statement.{statement}
+use Rattle.orbit_gyro_drift.proofs.read.Tie as tie
+
+dated-refusal-requires : tie.Need-dated-refusal-requires
+dated-refusal-requires c κs = search needs
+
+none-requires : tie.Need-none-requires
+none-requires c κs = search needs
+
+returns : tie.Need-returns
+returns c =
+    let told = c .before .before in
+    let a = told .before .before .args in
+    drift-refused (now (a .body)) (a .year) _ _ (told .dated-refusal .ensures) (c .before .if1 .taken) (c .none .ensures)
+
+column-requires : tie.Need-column-requires
+column-requires c κs =
+    let a = c .before .before .before .args in
+    let known = dated-cycle (now (a .body)) (a .year) 0 (sym (c .before .dated-refusal .ensures) ∙ c .if1 .left) in
+    (known .sized, known .frame)
+
+slice-aggregate-in-column : tie.Need-slice-aggregate-in-column
+slice-aggregate-in-column c = search needs
+
+instant-requires : tie.Need-instant-requires
+instant-requires c κs = search needs
+
+in-column-requires : tie.Need-in-column-requires
+in-column-requires c κs = search needs
+
+returns-2 : tie.Need-returns-2
+returns-2 c =
+    let timed = c .before in
+    let gathered = timed .before .before in
+    let passed = gathered .before in
+    let told = passed .before in
+    let a = told .before .before .args in
+    drift-given (now (a .body)) (a .year) _ _ _ (sym (told .dated-refusal .ensures) ∙ passed .if1 .left) (gathered .column .ensures .0)
+    (timed .instant .ensures) (c .in-column .ensures)
+
+pub read-spec : {M : Type 1} → statement M
+read-spec =
+    tie.close
+    (tie.spec
+    dated-refusal-requires
+    none-requires
+    returns
+    column-requires
+    slice-aggregate-in-column
+    instant-requires
+    in-column-requires
+    returns-2)
