@@ -27,15 +27,17 @@ pub struct State {
     pub progress: Progress,
 }
 
-// A major frame is complete, and went to standard output, or could not.
+// A major frame is complete, and went to standard output, or could not. No more are counted than there are.
 pub fn wrote(s: State, shown: bool) -> State
-    requires { ⌜ s .written + 1 ≡ s .reel .frames ⌝ }
-    ensures { λ r. ⌜ (r .reel ≡ s .reel) × (r .written ≡ s .reel .frames) ⌝ }
+    ensures { λ r. ⌜ (s .written + 1 ≡ s .reel .frames → (r .reel ≡ s .reel) × (r .written ≡ s .reel .frames)) ⌝ }
 {
     let mut r = s;
-    r.written = s.written + 1;
     r.done = s.done & shown;
     r.goes_on = shown;
+    if s.reel.frames <= s.written {
+        return r;
+    }
+    r.written = s.written + 1;
     r
 }
 

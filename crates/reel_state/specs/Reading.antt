@@ -4,7 +4,7 @@
 use mathlib.Core.Path.{_≡_}
 use mathlib.Core.Bool.{Bool, true, false}
 use mathlib.Core.List.{List}
-use Prim.Native.Nat.{ℕ, _+_, _≤_, _<_}
+use Prim.Native.Nat.{ℕ, _+_, _≤_, _<_, _^_}
 use lib.ListN.{length, take, replicate}
 use Rattle.base.specs.Lists.{one}
 use Rattle.labelling.specs.Calls.{Call, joined, paid, Handed}
@@ -68,6 +68,13 @@ pub record AdvancePromise (reel : Reel) (old : List ℕ) (r : Advanced) (new : L
   pub taken-is : r .reel .taken ≡ reel .taken + length bytes
   pub frames-is : r .reel .frames ≡ reel .frames + one (isComplete (r .event))
   pub went : Went (reel .strict) (reel .feeder) old bytes (one (isComplete (r .event))) (r .reel .feeder) new
+
+-- there is room for a step of so many bytes, after so many that were taken, so many major frames and so far into the buffer
+pub record Room (taken frames at more : ℕ) : Type 0 where
+  pub bytes-bounded : taken ≤ 2 ^ 40
+  pub frames-bounded : frames ≤ 2 ^ 40
+  pub piece-bounded : more < 2 ^ 63
+  pub within : at + more < 2 ^ 64
 
 -- the reel after the step s
 pub record SteppedPromise (reel : Reel) (s : Relocked) (r : Advanced) : Type 0 where

@@ -1,8 +1,9 @@
 // Where the reading of a reel stands, and how a step on a piece of it changes that: a leaf for `reel_reading`.
 ghost use mathlib.Core.Path.{_≡_};
-ghost use Prim.Native.Nat.{_+_, _^_, _≤_, _<_};
+ghost use mathlib.Core.Bool.{true, false};
+ghost use Prim.Native.Nat.{_≤_};
 ghost use Rattle.base.specs.Lists.{one};
-ghost use Rattle.reel_state.specs.Reading.{SteppedPromise, isComplete, Keeps};
+ghost use Rattle.reel_state.specs.Reading.{Room, SteppedPromise, isComplete, Keeps};
 use base::refusal::TOO_MANY_BYTES;
 use relocking::Feeder;
 use relocking::Relocked;
@@ -49,9 +50,45 @@ pub struct Advanced {
     pub reel: Reel,
 }
 
-// The reel after a step.
+// No reel has more bytes or major frames.
+const MOST: u64 = 1 << 40;
+
+// No piece has so many bytes.
+const TOO_LONG: usize = 1 << 63;
+
+// The last place of a buffer.
+const LAST: usize = 0xffff_ffff_ffff_ffff;
+
+// The reel after a step; as it was, where its numbers have no room for that.
 pub fn stepped(reel: Reel, s: Relocked, whole: bool) -> Advanced
-    requires { ⌜ (reel .taken ≤ 2 ^ 40) × (reel .frames ≤ 2 ^ 40) × (s .taken < 2 ^ 63) × (reel .at + s .taken < 2 ^ 64) ⌝ }
+    ensures { λ r. ⌜ (Room (reel .taken) (reel .frames) (reel .at) (s .taken) → SteppedPromise reel s r) ⌝ }
+{
+    if !has_room(reel.taken, reel.frames, reel.at, s.taken) {
+        return too_many(reel);
+    }
+    moved(reel, s, whole)
+}
+
+fn has_room(taken: u64, frames: u64, at: usize, more: usize) -> bool
+    ensures { λ r. ⌜ (r ≡ true → Room taken frames at more) × (r ≡ false → Room taken frames at more → ⊥) ⌝ }
+{
+    if MOST < taken {
+        return false;
+    }
+    if MOST < frames {
+        return false;
+    }
+    if TOO_LONG <= more {
+        return false;
+    }
+    if LAST - more < at {
+        return false;
+    }
+    true
+}
+
+fn moved(reel: Reel, s: Relocked, whole: bool) -> Advanced
+    requires { ⌜ Room (reel .taken) (reel .frames) (reel .at) (s .taken) ⌝ }
     ensures { λ r. ⌜ SteppedPromise reel s r ⌝ }
 {
     let feeder = s.feeder;

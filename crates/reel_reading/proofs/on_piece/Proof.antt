@@ -26,10 +26,27 @@ stepped-requires c κs = search needs
 same-length : tie.Need-same-length
 same-length c = search needs
 
+-- where a step was made
+module _ (made : tie.After-step) where
+  abbrev few : tie.Else2
+  few = made .before .before .before .before
+
+  abbrev start : tie.Start
+  start = let below = few .before .before in below .before .before .before .before
+
 returns-3 : tie.Need-returns-3
 returns-3 c =
-    let stepped = c .before .before .before in
-    advances _ _ _ _ _ _ (stepped .step .ensures) (c .stepped .ensures)
+    let made = c .before .before .before in
+    let asked = start made .pre in
+    let room = c .stepped .ensures in
+    advances _ _ _ _ _ _ (made .step .ensures)
+    (room
+    (record {
+      bytes-bounded = omega arith;
+      frames-bounded = omega arith;
+      piece-bounded = omega (arith, asked .0);
+      within = omega (arith, asked .1);
+    }))
 
 pub on-piece-spec : {M : Type 1} → statement M
 on-piece-spec =
