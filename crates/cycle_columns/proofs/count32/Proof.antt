@@ -17,7 +17,7 @@ cast-result c =
     omega (arith, below, c .count .ensures)
 
 returns : tie.Need-returns
-returns c = search needs
+returns c = c .count .ensures
 
 pub count32-spec : {M : Type 1} → statement M
 count32-spec = tie.close (tie.spec count-requires cast-result returns)
