@@ -4,20 +4,38 @@ mod tables;
 
 ghost use mathlib.Core.Path.{_≡_};
 ghost use Prim.Native.Nat.{_+_, _*_};
-ghost use lib.ListN.{length};
+ghost use lib.ListN.{length, getD};
 ghost use Rattle.header_code.specs.Code.{weight};
 ghost use Rattle.header_code.specs.Symbols.{symbolsOf, combined};
 ghost use Rattle.header_code.specs.Decoder.{syndromes, checks};
-ghost use Rattle.header_symbols.specs.Header.{symbols, placed};
+ghost use Rattle.header_symbols.specs.Header.{symbols, placed, putAfter};
 ghost use Rattle.header_symbols.specs.Steps.{Mark};
 use base::wide;
 
-// The ten symbols of a header.
+// A header has eight bytes.
+const HEADER: usize = 8;
+
+// The ten symbols of a header; a byte that is missing counts as 0.
 pub fn pack(header: &[u8]) -> u64
-    requires { ⌜ length (now header) ≡ 8 ⌝ }
     ensures { λ r. ⌜ symbolsOf 10 r ≡ symbols (now (header .entry)) ⌝ }
 {
-    join(header[0], header[1], header[5], header[6], header[7])
+    join(
+        byte_at(header, 0),
+        byte_at(header, 1),
+        byte_at(header, 5),
+        byte_at(header, 6),
+        byte_at(header, 7),
+    )
+}
+
+// A byte, 0 past the end.
+fn byte_at(bytes: &[u8], place: usize) -> u8
+    ensures { λ r. ⌜ r ≡ getD (now (bytes .entry)) place 0 ⌝ }
+{
+    if place < bytes.len() {
+        return bytes[place];
+    }
+    0
 }
 
 // Five bytes as one number, the first byte highest.
@@ -27,8 +45,17 @@ fn join(a: u8, b: u8, c: u8, d: u8, e: u8) -> u64
     (((wide(a) * 256 + wide(b)) * 256 + wide(c)) * 256 + wide(d)) * 256 + wide(e)
 }
 
-// Puts the last ten symbols of a number into a header; the counter stays.
+// Puts the last ten symbols of a number into a header; the counter stays. Other than eight bytes are left as they are.
 pub fn put(header: &mut [u8], word: u64)
+    ensures { λ _. ⌜ now (header .exit) ≡ putAfter (symbolsOf 10 word) (now (header .entry)) ⌝ }
+{
+    if header.len() != HEADER {
+        return;
+    }
+    put_eight(header, word)
+}
+
+fn put_eight(header: &mut [u8], word: u64)
     requires { ⌜ length (now header) ≡ 8 ⌝ }
     ensures { λ _. ⌜ now (header .exit) ≡ placed (symbolsOf 10 word) (now (header .entry)) ⌝ }
 {

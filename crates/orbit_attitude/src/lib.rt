@@ -1,7 +1,5 @@
 // The attitude (DFCB 3.2.7.4.5), in every major frame.
 ghost use mathlib.Core.Path.{_≡_};
-ghost use Prim.Native.Nat.{_+_, _≤_};
-ghost use lib.ListN.{length};
 ghost use Rattle.fixed_point.specs.Counts.{signed};
 ghost use Rattle.cycle_columns.specs.Values.{word};
 ghost use Rattle.orbit_attitude.specs.Record.{attitudeIn, noAttitude};
@@ -33,7 +31,6 @@ pub fn read(body: &[u8], year: u64, k: u64) -> Attitude
 }
 
 fn in_column(column: &[u8], instant: u64) -> Attitude
-    requires { ⌜ length (now column) ≡ 128 ⌝ }
     ensures { λ r. ⌜ r ≡ attitudeIn instant (now (column .entry)) ⌝ }
 {
     Attitude {
@@ -48,7 +45,6 @@ fn in_column(column: &[u8], instant: u64) -> Attitude
 
 // The Euler parameter from a place on.
 fn parameter(column: &[u8], place: usize) -> i64
-    requires { ⌜ place + 4 ≤ length (now column) ⌝ }
     ensures { λ r. ⌜ r ≡ signed (word (now (column .entry)) place) ⌝ }
 {
     fixed_point::signed(count32(column, place))

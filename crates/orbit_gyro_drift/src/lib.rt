@@ -1,6 +1,5 @@
 // The drift of the gyros (DFCB 3.2.7.4.4), in major frame 0.
 ghost use mathlib.Core.Path.{_≡_};
-ghost use lib.ListN.{length};
 ghost use Rattle.orbit_gyro_drift.specs.Record.{noGyroDrift};
 ghost use Rattle.orbit_gyro_drift.specs.Promise.{GyroDriftPromise, DriftIn};
 use cycle_columns::column;
@@ -32,7 +31,6 @@ pub fn read(body: &[u8], year: u64) -> GyroDrift
 }
 
 fn in_column(column: &[u8], instant: u64) -> GyroDrift
-    requires { ⌜ length (now column) ≡ 128 ⌝ }
     ensures { λ r. ⌜ DriftIn instant (now (column .entry)) r ⌝ }
 {
     GyroDrift {

@@ -1,18 +1,21 @@
 -- Packing undoes reading the half bytes, and reading them undoes packing; and the bytes of an instant are its fields packed.
 -- Each step is linear arithmetic on one field, so that no proof sees more than it needs. Assumes nothing.
-use mathlib.Core.Path.{_≡_}
+use mathlib.Core.Path.{_≡_, sym, subst}
+use mathlib.Core.Bool.{true, false}
 use mathlib.Core.List.{List, [], _∷_}
 use Prim.Native.Nat.{ℕ, _+_, _*_, _/_, _%_, _≤_, _<_}
 use native.Mathlib.Omega.{arith}
-use lib.Dec.{T}
-use lib.Ieee.Fits.{and-i}
+use lib.Dec.{T, leb→le, eqb→eq}
+use lib.Ieee.Fits.{and-i, and-l, and-r}
+use lib.ListN.{length}
+use borrow.Author.Tests.{le-leb}
 use Rattle.calendar.specs.Calendar.{lastDay}
 use Rattle.time_fields.specs.Fields.{decimal, inRange, isTime, ticks, instant}
 use Rattle.time_fields.specs.Fields.{spacecraft, day, hour, minute, second, millisecond, sixteenth}
 use Rattle.time_fields.specs.Fields.{dayOf, hourOf, minuteOf, secondOf, millisecondOf, sixteenthOf}
 use Rattle.time_fields.proofs.Fields.{Digits, of-digits, InRange, of-range}
 use Rattle.time_fields.proofs.Fields.{day-of, hour-of, minute-of, second-of, millisecond-of, sixteenth-of}
-use Rattle.time_bytes.specs.Bytes.{halves, bcd, packed, codeOf}
+use Rattle.time_bytes.specs.Bytes.{halves, bcd, packed, codeOf, fits, putAfter}
 
 -- ---- seven bytes, their fields packed again
 module _ (b0 b1 b2 b3 b4 b5 b6 : ℕ) where
@@ -78,3 +81,23 @@ pub code-bytes : (c i b1 b2 b3 b4 b5 : ℕ) → b1 ≡ bcd (dayOf i % 100) → b
     → halves c (dayOf i / 100) ∷ b1 ∷ b2 ∷ b3 ∷ b4 ∷ b5 ∷ halves (millisecondOf i % 10) (sixteenthOf i) ∷ [] ≡ codeOf c i
 unfolding codeOf
 code-bytes c i b1 b2 b3 b4 b5 e1 e2 e3 e4 e5 = rw (e1, e2, e3, e4, e5)
+
+-- ---- whether they fit
+pub record Fits (room c i : ℕ) : Type 0 where
+  pub seven : room ≡ 7
+  pub craft : c ≤ 15
+  pub day : dayOf i ≤ 366
+
+pub to-fits : (room c i : ℕ) → fits room c i ≡ true → Fits room c i
+to-fits room c i e =
+    let t : T (fits room c i) = subst T (sym e) tt in
+    search (and-l, and-r, leb→le, eqb→eq) depth 8
+
+module _ (c i : ℕ) (out : List ℕ) where
+  pub put-none : fits (length out) c i ≡ false → out ≡ putAfter c i out
+  unfolding putAfter
+  put-none e = rw e
+
+  pub put-code : Fits (length out) c i → codeOf c i ≡ putAfter c i out
+  unfolding putAfter
+  put-code f = rw (f .seven, le-leb c 15 (f .craft), le-leb (dayOf i) 366 (f .day))

@@ -4,7 +4,14 @@ ghost use mathlib.Core.Path.{_≡_};
 ghost use Prim.Native.Nat.{_≤_, _<_};
 ghost use lib.ListN.{length};
 ghost use Rattle.time_fields.specs.Fields.{dayOf};
-ghost use Rattle.time_bytes.specs.Bytes.{bcd, codeOf};
+ghost use Rattle.time_bytes.specs.Bytes.{bcd, codeOf, fits, putAfter};
+
+// A time code has seven bytes.
+const CODE_LENGTH: usize = 7;
+
+const LAST_SPACECRAFT: u64 = 15;
+
+const LAST_DAY: u64 = 366;
 
 const TICKS_PER_MILLISECOND: u64 = 16;
 
@@ -16,8 +23,24 @@ const TICKS_PER_HOUR: u64 = 57_600_000;
 
 const TICKS_PER_DAY: u64 = 1_382_400_000;
 
-// Writes the code of a spacecraft number and an instant.
+// Writes the code of a spacecraft number and an instant. Nothing is written where it does not fit: other than seven bytes are lent, the spacecraft is
+// above 15 or the day above 366.
 pub fn put(out: &mut [u8], spacecraft: u64, instant: u64)
+    ensures { λ _. ⌜ now (out .exit) ≡ putAfter spacecraft instant (now (out .entry)) ⌝ }
+{
+    if !code_fits(out.len(), spacecraft, instant) {
+        return;
+    }
+    put_seven(out, spacecraft, instant)
+}
+
+fn code_fits(room: usize, spacecraft: u64, instant: u64) -> bool
+    ensures { λ r. ⌜ r ≡ fits room spacecraft instant ⌝ }
+{
+    (room == CODE_LENGTH) & (spacecraft <= LAST_SPACECRAFT) & (instant / TICKS_PER_DAY <= LAST_DAY)
+}
+
+fn put_seven(out: &mut [u8], spacecraft: u64, instant: u64)
     requires { ⌜ (length (now out) ≡ 7) × (spacecraft ≤ 15) × (dayOf instant ≤ 366) ⌝ }
     ensures { λ _. ⌜ now (out .exit) ≡ codeOf spacecraft instant ⌝ }
 {

@@ -22,6 +22,8 @@ use Rattle.header_code.proofs.Encoding.{encoded}
 use Rattle.header_code.proofs.Unique.{same-six}
 use Rattle.header_code.proofs.Light.{located-light}
 use Rattle.header_code.proofs.Repairing as repairing
+use Rattle.header_symbols.specs.Header.{putAfter}
+use Rattle.header_symbols.proofs.Bytes.{put-header}
 use Rattle.vcdu_header.specs.declared.Checked.{Checked}
 use Rattle.vcdu_header.specs.declared.Checked.the-variants as checked
 use Rattle.vcdu_header.specs.declared.Repaired.{Repaired}
@@ -179,7 +181,7 @@ module _ (h : List ℕ) (bytes : (i : ℕ) → getD h i 0 < 256) where
         repair-unlike other =
             lost (repairing.unlike x (λ same. other (et ∙ ap (λ (k : ℕ). combined syndromes (symbolsOf 10 k)) is-located ∙ same ∙ sym is-syndrome)))
 
-        pub repair-done : t ≡ s → (after : List ℕ) (count : ℕ) → after ≡ placed (symbolsOf 10 (n ⊕ errors)) h → count ≡ weight (symbolsOf 10 errors)
+        pub repair-done : t ≡ s → (after : List ℕ) (count : ℕ) → after ≡ putAfter (symbolsOf 10 (n ⊕ errors)) h → count ≡ weight (symbolsOf 10 errors)
             → RepairPromise h after (repaired.Corrected count)
         repair-done same after count ea ec =
             let alike : combined syndromes (symbolsOf 10 errors) ≡ left = sym et ∙ same ∙ is-syndrome in
@@ -189,4 +191,4 @@ module _ (h : List ℕ) (bytes : (i : ℕ) → getD h i 0 < 256) where
             let sum : symbolsOf 10 (n ⊕ errors) ≡ c = symbols-sum 10 n errors ∙ ap (λ (w : List ℕ). add w (symbolsOf 10 errors)) p in
             repair-promise (some c) (repairing.repaired x errors alike light) after _
             (rw (eq-eqb (length h) 8 eight) (ap repaired.Corrected (ec ∙ sym (repairing.changed x errors alike))))
-            (rw (eq-eqb (length h) 8 eight) (ea ∙ ap (λ (w : List ℕ). placed w h) sum))
+            (rw (eq-eqb (length h) 8 eight) (ea ∙ sym (put-header (symbolsOf 10 (n ⊕ errors)) h eight) ∙ ap (λ (w : List ℕ). placed w h) sum))

@@ -1,53 +1,34 @@
--- `cycle_columns::column` meets its contract: what is gathered from rows of a cycle. Assumes nothing.
-use mathlib.Core.Path.{ap, _∙_}
+-- `cycle_columns::column` meets its contract: the frame's column, or zeros. Assumes nothing.
+use mathlib.Core.Path.{_∙_}
 use Prim.Native.Nat.{ℕ}
-use lib.ListN.{length, replicate, length-replicate}
+use lib.ListN.{length-replicate}
 use denote.Ref.{now}
-use Rattle.cycle_columns.proofs.Gathering.{column-is, column-length}
+use Rattle.cycle_columns.proofs.Gathering.{column-there, no-cycle, no-frame}
 use borrow.Author.Needs.{needs}
 use Rattle.cycle_columns.proofs.column.Statement.{statement}
 use Rattle.cycle_columns.proofs.column.Tie as tie
 
-mul-start : tie.Need-mul-start
-mul-start c = search needs
-
-add-end : tie.Need-add-end
-add-end c = search needs
-
-sub-gather : tie.Need-sub-gather
-sub-gather c = search needs
-
-part-gather-start : tie.Need-part-gather-start
-part-gather-start c = search needs
-
-part-gather-end : tie.Need-part-gather-end
-part-gather-end c = search needs
-
-slice-aggregate-gather : tie.Need-slice-aggregate-gather
-slice-aggregate-gather c = search needs
-
-gather-requires : tie.Need-gather-requires
-gather-requires c κs = search needs
-
 returns : tie.Need-returns
 returns c =
-    let gathered = c .before in
-    let part = gathered .before .before in
-    let s = part .before .before in
-    let body = now (s .args .body) in
-    let wide = length-replicate {A = ℕ} 128 0 in
-    let is = column-is body (s .args .k) (replicate 128 0) _ (s .pre .0) (s .pre .1) wide (gathered .gather .ensures .after) in
-    (is, ap length is ∙ column-length body (s .args .k))
+    let a = c .before .before .args in
+    (no-cycle (now (a .body)) (a .k) (c .if1 .taken), length-replicate {A = ℕ} 128 0)
+
+returns-2 : tie.Need-returns-2
+returns-2 c =
+    let sized = c .before in
+    let a = sized .before .before .args in
+    (no-frame (now (a .body)) (a .k) (sized .if1 .left) (c .if2 .taken), length-replicate {A = ℕ} 128 0)
+
+frame-column-requires : tie.Need-frame-column-requires
+frame-column-requires c κs = search needs
+
+returns-3 : tie.Need-returns-3
+returns-3 c =
+    let framed = c .before in
+    let sized = framed .before in
+    let a = sized .before .before .args in
+    let made = c .frame-column .ensures in
+    (made .0 ∙ column-there (now (a .body)) (a .k) (sized .if1 .left) (framed .if2 .left), made .1)
 
 pub column-spec : {M : Type 1} → statement M
-column-spec =
-    tie.close
-    (tie.spec
-    mul-start
-    add-end
-    sub-gather
-    part-gather-start
-    part-gather-end
-    slice-aggregate-gather
-    gather-requires
-    returns)
+column-spec = tie.close (tie.spec returns returns-2 frame-column-requires returns-3)

@@ -1,61 +1,29 @@
--- `header_symbols::put` meets its contract: the five stores leave the header with the word's symbols. Assumes nothing.
-use native.Mathlib.Omega.{arith}
-use lib.ListN.{length-set}
+-- `header_symbols::put` meets its contract: eight bytes take the symbols, and others stay. Assumes nothing.
+use mathlib.Core.Path.{_∙_}
 use denote.Ref.{now}
 use borrow.Author.Needs.{needs}
-use Rattle.header_symbols.proofs.Bytes.{put-placed}
+use Rattle.header_code.specs.Symbols.{symbolsOf}
+use Rattle.header_symbols.proofs.Bytes.{put-other, put-header}
 use Rattle.header_symbols.proofs.put.Statement.{statement}
 use Rattle.header_symbols.proofs.put.Tie as tie
 
-cast-header : tie.Need-cast-header
-cast-header c = search needs
+returns : tie.Need-returns
+returns c =
+    let a = c .before .before .args in
+    put-other (symbolsOf 10 (a .word)) (now (a .header)) (c .if1 .taken)
 
-slice-write-header : tie.Need-slice-write-header
-slice-write-header c = search needs
-
-cast-header-2 : tie.Need-cast-header-2
-cast-header-2 c = search needs
-
-slice-write-header-2 : tie.Need-slice-write-header-2
-slice-write-header-2 c = search needs
-
-cast-header-3 : tie.Need-cast-header-3
-cast-header-3 c = search needs
-
-slice-write-header-3 : tie.Need-slice-write-header-3
-slice-write-header-3 c = search needs
-
-cast-header-4 : tie.Need-cast-header-4
-cast-header-4 c = search needs
-
-slice-write-header-4 : tie.Need-slice-write-header-4
-slice-write-header-4 c = search needs
-
-cast-header-5 : tie.Need-cast-header-5
-cast-header-5 c = search needs
-
-slice-write-header-5 : tie.Need-slice-write-header-5
-slice-write-header-5 c = simp length-set (omega arith)
+put-eight-requires : tie.Need-put-eight-requires
+put-eight-requires c κs = search needs
 
 same-length : tie.Need-same-length
 same-length c = search needs
 
-returns : tie.Need-returns
-returns c = put-placed (c .args .word) (now (c .args .header)) (c .pre)
+returns-2 : tie.Need-returns-2
+returns-2 c =
+    let called = c .before .before in
+    let eight = called .before .before in
+    let a = eight .before .before .args in
+    called .put-eight .ensures ∙ put-header (symbolsOf 10 (a .word)) (now (a .header)) (eight .if1 .left)
 
 pub put-spec : {M : Type 1} → statement M
-put-spec =
-    tie.close
-    (tie.spec
-    cast-header
-    slice-write-header
-    cast-header-2
-    slice-write-header-2
-    cast-header-3
-    slice-write-header-3
-    cast-header-4
-    slice-write-header-4
-    cast-header-5
-    slice-write-header-5
-    same-length
-    returns)
+put-spec = tie.close (tie.spec returns put-eight-requires same-length returns-2)

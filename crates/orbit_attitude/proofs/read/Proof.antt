@@ -2,6 +2,7 @@
 use mathlib.Core.Path.{sym, _∙_}
 use denote.Ref.{now}
 use Rattle.cycle_records.proofs.Known.{dated-cycle}
+use Rattle.cycle_columns.proofs.Gathering.{column-given}
 use Rattle.orbit_attitude.proofs.Answers.{attitude-refused, attitude-given}
 use borrow.Author.Needs.{needs}
 use Rattle.orbit_attitude.proofs.read.Statement.{statement}
@@ -20,10 +21,7 @@ returns c =
     attitude-refused (now (a .body)) (a .year) (a .k) _ _ (told .dated-refusal .ensures) (c .before .if1 .taken) (c .none .ensures)
 
 column-requires : tie.Need-column-requires
-column-requires c κs =
-    let a = c .before .before .before .args in
-    let known = dated-cycle (now (a .body)) (a .year) (a .k) (sym (c .before .dated-refusal .ensures) ∙ c .if1 .left) in
-    (known .sized, known .frame)
+column-requires c κs = search needs
 
 slice-aggregate-in-column : tie.Need-slice-aggregate-in-column
 slice-aggregate-in-column c = search needs
@@ -41,7 +39,9 @@ returns-2 c =
     let passed = gathered .before in
     let told = passed .before in
     let a = told .before .before .args in
-    attitude-given (now (a .body)) (a .year) (a .k) _ _ _ (sym (told .dated-refusal .ensures) ∙ passed .if1 .left) (gathered .column .ensures .0)
+    let accepted = sym (told .dated-refusal .ensures) ∙ passed .if1 .left in
+    let word72 = column-given (now (a .body)) (a .k) (dated-cycle (now (a .body)) (a .year) (a .k) accepted) (gathered .column .ensures .0) in
+    attitude-given (now (a .body)) (a .year) (a .k) _ _ _ accepted word72
     (timed .instant .ensures) (c .in-column .ensures)
 
 pub read-spec : {M : Type 1} → statement M

@@ -57,11 +57,7 @@ returns-3 c =
     _ (again .syndrome2 .ensures) (c .if3 .taken)
 
 put-requires : tie.Need-put-requires
-put-requires c κs =
-    let alike = c .before in
-    let found = alike .before .before in
-    let packed = found .before .before .before in
-    packed .before .before .if1 .left
+put-requires c κs = search needs
 
 weigh-requires : tie.Need-weigh-requires
 weigh-requires c κs = search needs
