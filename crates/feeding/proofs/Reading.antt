@@ -12,7 +12,7 @@ use Rattle.base.specs.Lists.{one}
 use Rattle.labelling.specs.declared.Operators.{Operators}
 use Rattle.labelling.specs.declared.Tally.{Tally}
 use Rattle.labelling.specs.Operators.{booked}
-use Rattle.labelling.specs.Calls.{TakeCall, takeRefusal, Answer, answer, taken, pays, takes, joined, paid, Handed, done, refused}
+use Rattle.labelling.specs.Calls.{TakeCall, takeRefusal, Answer, answer, taken, pays, Call, takes, joined, paid, Handed, done, refused}
 use Rattle.labelling.proofs.Reaching.{handed-append, joined-append}
 use Rattle.labelling.proofs.Demand.{handed-rule}
 use Rattle.labelling.proofs.CallLaws.{Passed, passed, no-refusal, refused-answer, answer-ordered, accepted-bytes, accepted-operators}
@@ -139,6 +139,13 @@ module _ (t : Tally) (s old : List ℕ) (m : ℕ) (e : takeRefusal (callOf t s o
     rule-is = refl;
   }
 
+-- the same of equal calls, tallies and areas
+handed-as : {t u v : Tally} {a b c : List ℕ} {cs ds : List Call} → ds ≡ cs → u ≡ v → b ≡ c → Handed t a cs v c → Handed t a ds u b
+handed-as calls tally area h = rw (calls, tally, area) h
+
+promise-as : {t : Tally} {s old b c : List ℕ} {r q : Fed} → r ≡ q → b ≡ c → FeedPromise t s old q c → FeedPromise t s old r b
+promise-as answer area p = rw (answer, area) p
+
 module _ {t : Tally} {s old : List ℕ} {f r : Fed} {a b : List ℕ} (i : Reading t s old f a) (n : NextPromise f s a r b) where
   refusal-same : r .refusal ≡ takeRefusal (callOf t s old)
   refusal-same = ap (λ (x : Fed). x .refusal) (n .next-is) ∙ i .same-refusal
@@ -161,22 +168,31 @@ module _ {t : Tally} {s old : List ℕ} {f r : Fed} {a b : List ℕ} (i : Readin
     same-duty : r .tally .operators .duty ≡ t .operators .duty
     same-duty = rw (n .next-is) (ap (λ (o : Operators). o .duty) (accepted-operators (rest f s a) accepts) ∙ i .duty-is)
 
+    reached : r .taken ≡ f .taken + answer (rest f s a) .taken
+    reached = ap (λ (x : Fed). x .taken) (n .next-is)
+
+    tally-left : r .tally ≡ answer (rest f s a) .tally
+    tally-left = ap (λ (x : Fed). x .tally) (n .next-is)
+
     pub goes-on : length b ≡ length a → Reading t s old r b
     goes-on same = record {
       within = n .within;
       few = n .few;
       calls = i .calls ++ rest f s a ∷ [];
-      handed = rw (more-calls, n .next-is, n .area-is) (handed-append (i .handed) (handed-one (rest f s a) accepts));
+      handed = handed-as more-calls tally-left (n .area-is) (handed-append (i .handed) (handed-one (rest f s a) accepts));
       joined-is = more-joined;
       paid-is = more-paid;
       duty-is = same-duty;
-      same-refusal = rw (n .next-is) (still-accepts f s a accepts (i .within) b same (rw (n .next-is) at (n .within))) ∙ sym (sym refusal-same ∙ z);
+      same-refusal =
+          ap (λ (x : Fed). takeRefusal (rest x s b)) (n .next-is)
+          ∙ still-accepts f s a accepts (i .within) b same (rw reached at (n .within))
+          ∙ sym (sym refusal-same ∙ z);
       untouched = λ h. absurd (h (sym refusal-same ∙ z));
     }
 
     pub further : r .taken < length s → length s - r .taken < length s - f .taken
     further h =
-        let on : f .taken ≤ r .taken = omega (arith, ap (λ (x : Fed). x .taken) (n .next-is)) in
+        let on : f .taken ≤ r .taken = omega (arith, reached) in
         omega (arith, n .onward z (omega arith))
 
     pub ends : length b ≡ length a → length s ≤ r .taken → FeedPromise t s old r b
@@ -205,4 +221,5 @@ module _ {t : Tally} {s old : List ℕ} {f r : Fed} {a b : List ℕ} (i : Readin
           let first = i .untouched (λ y. omega (arith, whole)) in
           let answered = refused-answer (callOf t s old) m whole in
           let same : r ≡ refusedWith t (suc m) = n .next-is ∙ rw (first .0, first .1, answered, whole) in
-          rw (same, n .area-is, first .0, first .1, answered) (first-refused t s old m whole)
+          let area-same : b ≡ old = n .area-is ∙ rw (first .0, first .1, answered) in
+          promise-as same area-same (first-refused t s old m whole)

@@ -90,12 +90,16 @@ module _ (rule : ℕ) (a₀ : List ℕ) where
       rw (accepted-under c e (i .rule-is)) (feed-right (ruleVote rule) a₀ (stateOf (c .tally)) (c .area) xs (c .piece) (i .inv)) in
       record { inv = r .grown .inv; order = answer-ordered c (i .order); rule-is = accepted-rule c e ∙ i .rule-is }
 
+  -- the bytes grouped anew
+  regrouped : {u : Tally} {b : List ℕ} (xs ys zs : List ℕ) → Reached u b ((xs ++ ys) ++ zs) → Reached u b (xs ++ (ys ++ zs))
+  regrouped xs ys zs i = rw append-assoc at i
+
   pub reads-reached : {t u : Tally} {a b : List ℕ} {ps qs : List (List ℕ)} {cs : List Call} (xs : List ℕ) → Reads t a ps cs u b qs → Reached t a xs
       → Reached u b (xs ++ joined cs)
   unfolding joined
   reads-reached xs no-call i = rw (append-nil xs) i
-  reads-reached xs (takes-all c e n r) i = rw append-assoc at (reads-reached (xs ++ taken c) r (accepted-reached c xs e i))
-  reads-reached xs (stops c e n r) i = rw append-assoc at (reads-reached (xs ++ taken c) r (accepted-reached c xs e i))
+  reads-reached xs (takes-all {cs} c e n r) i = regrouped xs (taken c) (joined cs) (reads-reached (xs ++ taken c) r (accepted-reached c xs e i))
+  reads-reached xs (stops {cs} c e n r) i = regrouped xs (taken c) (joined cs) (reads-reached (xs ++ taken c) r (accepted-reached c xs e i))
 
   -- a call for the piece p is accepted where the bytes fit
   module _ (t : Tally) (a xs p : List ℕ) (i : Reached t a xs) (fits : length xs + length p ≤ 2 ^ 40) where
@@ -132,17 +136,20 @@ module _ (rule : ℕ) (a₀ : List ℕ) where
       whole : length (stream (p ∷ ps)) ≡ length p + length (stream ps)
       whole = length-append p (stream ps)
 
+      room : length xs + length p ≤ 2 ^ 40
+      room = omega (arith, whole)
+
       accept : takeRefusal c ≡ 0
-      accept = call-accepted t a xs p i (omega (arith, whole))
+      accept = call-accepted t a xs p i room
 
       extent : Extent p (answer c .taken) (answer c .complete)
-      extent = call-extent t a xs p i (omega (arith, whole))
+      extent = call-extent t a xs p i room
 
       after : Reached (answer c .tally) (answer c .area) (xs ++ take (answer c .taken) p)
-      after = call-reached t a xs p i (omega (arith, whole))
+      after = call-reached t a xs p i room
 
       bytes : length (xs ++ take (answer c .taken) p) ≡ length xs + answer c .taken
-      bytes = call-bytes t a xs p i (omega (arith, whole))
+      bytes = call-bytes t a xs p i room
 
       go : (b : Bool) → answer c .complete ≡ b → ReadBySome t a (p ∷ ps)
       go false e =

@@ -1,4 +1,4 @@
--- A call that is refused, and one that is not: from what was left to what `take`, `take_to_lock` or `change_duty` promises. Assumes nothing.
+-- A call that is refused, and one that is not: from what was left to what `take` or `take_to_lock` promises. Assumes nothing.
 use mathlib.Core.Path.{_≡_, refl, sym, ap, _∙_}
 use mathlib.Core.Bool.{Bool, true, false, true≢false}
 use mathlib.Core.List.{List}
@@ -9,18 +9,16 @@ use Rattle.base.specs.Format.{majorFrame}
 use Rattle.base.specs.Lists.{one}
 use Rattle.labelling.specs.declared.Tally.{Tally}
 use Rattle.labelling.specs.Votes.{ruleVote}
-use Rattle.labelling.specs.Operators.{onDuty}
-use Rattle.labelling.specs.Machine.{stateOf, withOperators}
+use Rattle.labelling.specs.Machine.{stateOf}
 use Rattle.labelling.specs.Order.{inOrder}
-use Rattle.labelling.specs.Calls.{TakeCall, Answer, Progress, answerWith, feed, takeRefusal, answer, dutyRefusal, dutyAnswer}
+use Rattle.labelling.specs.Calls.{TakeCall, Answer, Progress, answerWith, feed, takeRefusal, answer}
 use Rattle.labelling.proofs.Feeding.{Extent, feed-extent}
-use Rattle.labelling.proofs.CallLaws.{no-refusal, refused-answer, accepted-answer, answer-ordered, duty-refused, duty-accepted, duty-ordered}
+use Rattle.labelling.proofs.CallLaws.{no-refusal, refused-answer, accepted-answer, answer-ordered}
 use Rattle.own_sync.specs.Locks.{locks, upTo, toLock}
 use Rattle.own_sync.proofs.Locks.{up-shorter, up-all, part-accepted}
-use Rattle.reader.specs.declared.duty.DutyChanged.{DutyChanged}
 use Rattle.reader.specs.declared.Locked.{Locked}
 use Rattle.reader.specs.declared.Taken.{Taken}
-use Rattle.reader.specs.Shapes.{callOf, answerOf, refusedWith, TakePromise, partOf, PartPromise, lockedBy, LockPromise, dutyCallOf, DutyPromise}
+use Rattle.reader.specs.Shapes.{callOf, answerOf, refusedWith, TakePromise, partOf, PartPromise, lockedBy, LockPromise}
 use Rattle.reader.proofs.Parts.{not-at-once, PartRead, part-read}
 
 module _ {t : Tally} {p a : List ℕ} where
@@ -115,17 +113,3 @@ module _ {c : TakeCall} {r : Taken} {a : List ℕ} (p : PartPromise true c r a) 
             takes-all = λ z d l. p .accepted e .takes-all z d ∙ ap length (q .whole (sym complete ∙ d) (sym told ∙ l));
             takes-some = λ l. rw taken (q .some (sym told ∙ l));
           }
-
--- ---- a call that names an operator
-
-module _ {t : Tally} {k : ℕ} where
-  duty-promise : (u : Tally) (n : ℕ) → dutyRefusal (dutyCallOf t k) ≡ n → u ≡ dutyAnswer (dutyCallOf t k)
-      → DutyPromise (dutyCallOf t k) (record { refusal = n; tally = u })
-  duty-promise u n q e = record { refusal-is = sym q; tally-is = e; stays-ordered = λ o. ap inOrder e ∙ duty-ordered (dutyCallOf t k) o }
-
-  pub unchanged : {n : ℕ} → dutyRefusal (dutyCallOf t k) ≡ suc n → DutyPromise (dutyCallOf t k) (record { refusal = suc n; tally = t })
-  unchanged {n} q = duty-promise t (suc n) q (sym (duty-refused (dutyCallOf t k) n q))
-
-  pub changed : {u : Tally} → dutyRefusal (dutyCallOf t k) ≡ 0 → u ≡ withOperators (onDuty k (t .operators)) t
-      → DutyPromise (dutyCallOf t k) (record { refusal = 0; tally = u })
-  changed {u} q e = duty-promise u 0 q (e ∙ sym (duty-accepted (dutyCallOf t k) q))

@@ -1,4 +1,4 @@
--- The reader's own structs in the terms of the labelling, and what `take`, `take_to_lock` and `change_duty` promise. Definitions only.
+-- The reader's own structs in the terms of the labelling, and what `take` and `take_to_lock` promise. Definitions only.
 use mathlib.Core.Path.{_≡_}
 use mathlib.Core.Bool.{Bool, true, false, not, _&&_, _||_}
 use mathlib.Core.List.{List}
@@ -11,9 +11,8 @@ use Rattle.labelling.specs.declared.Tally.{Tally}
 use Rattle.labelling.specs.Votes.{ruleVote}
 use Rattle.labelling.specs.Machine.{stateOf}
 use Rattle.labelling.specs.Order.{inOrder}
-use Rattle.labelling.specs.Calls.{TakeCall, takeRefusal, Answer, answer, DutyCall, dutyRefusal, dutyAnswer}
+use Rattle.labelling.specs.Calls.{TakeCall, takeRefusal, Answer, answer}
 use Rattle.own_sync.specs.Locks.{locks, upTo, toLock}
-use Rattle.reader.specs.declared.duty.DutyChanged.{DutyChanged}
 use Rattle.reader.specs.declared.Locked.{Locked}
 use Rattle.reader.specs.declared.Taken.{Taken}
 
@@ -65,15 +64,3 @@ pub record LockPromise (c : TakeCall) (r : Locked) (area : List ℕ) : Type 0 wh
   -- all of the piece is taken, or some of it where a major frame is complete or a hunt has ended
   pub takes-all : r .taken .refusal ≡ 0 → r .taken .complete ≡ false → r .locked ≡ false → r .taken .taken ≡ length (c .piece)
   pub takes-some : r .locked ≡ true → 0 < r .taken .taken
-
--- ---- a call that names an operator
-
-abbrev pub dutyCallOf : Tally → ℕ → DutyCall
-dutyCallOf t k = record { tally = t; operator = k }
-
--- `change_duty` of the call d answers r
-pub record DutyPromise (d : DutyCall) (r : DutyChanged) : Type 0 where
-  pub refusal-is : r .refusal ≡ dutyRefusal d
-  pub tally-is : r .tally ≡ dutyAnswer d
-  -- from a tally in order a tally in order is left
-  pub stays-ordered : inOrder (d .tally) ≡ true → inOrder (r .tally) ≡ true

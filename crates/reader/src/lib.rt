@@ -1,19 +1,17 @@
 // Reads an unpacked PCD stream in pieces: voted words, minor frames, major frames, and a tally of every byte (paper 01, "From bytes to
 // words" to "The tally and one call"; paper 02, requests 5 and 6). The claim about every list of calls is the contract of `fresh`.
-mod duty;
-
 ghost use mathlib.Core.Path.{_≡_};
 ghost use mathlib.Core.Bool.{true};
 ghost use Prim.Native.Nat.{_+_, _≤_, _^_};
 ghost use lib.ListN.{length};
 ghost use Rattle.base.specs.Format.{majorFrame};
-ghost use Rattle.labelling.specs.Once.{FreshPromise};
 ghost use Rattle.labelling.specs.Order.{inOrder};
-ghost use Rattle.labelling.specs.Machine.{tallyOf, fresh as freshOf};
+ghost use Rattle.labelling.specs.Machine.{tallyOf};
+ghost use Rattle.labelling.specs.Operators.{booked as bookedTo};
+ghost use Rattle.order.specs.Room.{DutyRoom};
 ghost use Rattle.plain_steps.specs.Shapes.{stateWith};
 ghost use Rattle.reader.specs.Shapes.{callOf, refusedWith, TakePromise, partOf, PartPromise, lockedBy, LockPromise};
 use base::format::MAJOR_FRAME;
-use base::refusal::NO_SUCH_RULE;
 use base::refusal::NOT_IN_ORDER;
 use base::refusal::TOO_MANY_BYTES;
 use base::refusal::WRONG_LENGTH;
@@ -21,12 +19,11 @@ pub use duty::DutyChanged;
 pub use duty::LAST_OPERATOR;
 pub use duty::change_duty;
 pub use duty::on_duty;
+pub use fresh_tally::FreshTally;
+pub use fresh_tally::fresh;
 use labelling::Framing;
-use labelling::Groups;
 use labelling::Operators;
-use labelling::Runs;
 use labelling::Tally;
-use labelling::Weak;
 use order::LIMIT;
 pub use order::in_order;
 use plain_steps::Layers;
@@ -51,75 +48,6 @@ pub struct Locked {
     pub taken: Taken,
     // Whether a hunt has ended, with the last byte that was taken.
     pub locked: bool,
-}
-
-// The answer where a fresh tally is asked for.
-pub struct FreshTally {
-    // 0, or the number of the refusal: there is no such rule. The tally is then that of rule 1.
-    pub refusal: u8,
-    pub tally: Tally,
-}
-
-// A tally of no bytes, with operator 0 on duty, that votes by this rule: 1, by bytes, or 2, by bits. What it promises is demand 3: over every list
-// of calls of `take` and `change_duty` that begins with it, each major frame of the bytes is paid exactly once, to whoever was on duty, and each
-// count is that of the labelling of the bytes.
-pub fn fresh(rule: u64) -> FreshTally
-    ensures { λ r. ⌜ FreshPromise rule (r .refusal) (r .tally) ⌝ }
-{
-    if (rule == 1) | (rule == 2) {
-        return FreshTally {
-            refusal: 0,
-            tally: blank(rule),
-        };
-    }
-    FreshTally {
-        refusal: NO_SUCH_RULE,
-        tally: blank(1),
-    }
-}
-
-fn blank(rule: u64) -> Tally
-    ensures { λ r. ⌜ r ≡ freshOf rule ⌝ }
-{
-    Tally {
-        groups: Groups {
-            bytes: 0,
-            fill: 0,
-            stray: 0,
-            voted: 0,
-            split: 0,
-            weak: Weak {
-                first: 0,
-                second: 0,
-                third: 0,
-            },
-            open: 0,
-            first: 0,
-            second: 0,
-        },
-        framing: Framing {
-            hunted: 0,
-            good: 0,
-            damaged: 0,
-            unsynced: 0,
-            placed: 0,
-            hunting: true,
-            matched: 0,
-            erasure: false,
-        },
-        runs: Runs {
-            majors: 0,
-            broken: 0,
-            loose: 0,
-            building: 0,
-        },
-        operators: Operators {
-            paid: [0u64; 8],
-            duty: 0,
-        },
-        rule: rule,
-        frame: [0u8; 128],
-    }
 }
 
 // Takes a piece of the stream, of any length, and puts the minor frames of a run into the area. A refusal takes 0 bytes, returns the
@@ -192,7 +120,7 @@ fn accepted(t: Tally, piece: &[u8], stop: bool, area: &mut [u8]) -> Taken
     };
     let r = reader_run::run(t.rule, stop, layers, piece, &mut frame, area);
     let left = r.layers;
-    let operators = duty::booked(t.operators, r.complete);
+    let operators = booked(t.operators, r.complete);
     let tally = together(left, operators, t.rule, frame);
     Taken {
         refusal: 0,
@@ -216,4 +144,16 @@ fn together(l: Layers, operators: Operators, rule: u64, frame: [u8; 128]) -> Tal
         rule: rule,
         frame: frame,
     }
+}
+
+// A call has taken its bytes: a complete major frame is counted to whoever is on duty.
+fn booked(o: Operators, complete: bool) -> Operators
+    requires { ⌜ DutyRoom o ⌝ }
+    ensures { λ r. ⌜ r ≡ bookedTo complete o ⌝ }
+{
+    let d = o.duty as usize;
+    let p = o.paid;
+    let mut next = o;
+    next.paid[d] = p[d] + complete as u64;
+    next
 }

@@ -19,12 +19,13 @@ use Rattle.labelling.proofs.Reaching.{handed-append, joined-append}
 use Rattle.labelling.proofs.CallLaws.{refused-answer, duty-refused}
 use Rattle.own_sync.specs.Relocking.{done as nothing-relocked, changed as changed-between}
 use Rattle.reader.specs.declared.Taken.{Taken}
-use Rattle.reader.specs.Shapes.{callOf, dutyCallOf, TakePromise}
+use Rattle.duty.specs.Change.{dutyCallOf}
+use Rattle.reader.specs.Shapes.{callOf, TakePromise}
 use Rattle.relocking.specs.declared.Feeder.{Feeder}
 use Rattle.relocking.specs.declared.Relocked.{Relocked}
 use Rattle.relocking.specs.Relock.{beginning, Move, reads, asks, leads, move, moved, ledBy, RelockPromise}
 use Rattle.feeding.proofs.CallLists.{paid-append, handed-one, joined-one, paid-one, joined-none, paid-none}
-use Rattle.relocking.proofs.ReadingReels.{relocked-append}
+use Rattle.relocking.proofs.CallLists.{relocked-append}
 use Rattle.reel_state.specs.declared.Advanced.{Advanced}
 use Rattle.reel_state.specs.declared.Event.the-variants.{Cut}
 use Rattle.reel_state.specs.declared.Reel.{Reel}

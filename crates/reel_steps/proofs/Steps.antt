@@ -26,7 +26,7 @@ use Rattle.relocking.specs.declared.Feeder.{Feeder}
 use Rattle.relocking.specs.declared.Relocked.{Relocked}
 use Rattle.relocking.specs.Relock.{Move, reads, asks, leads, move, moved, ledBy, callOn, callLed, refusedFeeder, RelockPromise, beginning}
 use Rattle.feeding.proofs.CallLists.{paid-append, paid-none}
-use Rattle.relocking.proofs.ReadingReels.{relocked-append}
+use Rattle.relocking.proofs.CallLists.{relocked-append}
 use Rattle.reel_steps.specs.Steps.{Steps, no-step, step, AnySteps}
 
 -- ---- the operators

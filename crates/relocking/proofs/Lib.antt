@@ -1,4 +1,4 @@
 pub mod Waiting
 pub mod Relocking
 pub mod Moves
-pub mod ReadingReels
+pub mod CallLists

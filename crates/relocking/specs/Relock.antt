@@ -1,8 +1,8 @@
--- What a step that locks on a frame's own sync promises, and the reading of a whole reel by such steps. Definitions only.
+-- What a step that locks on a frame's own sync promises. Definitions only.
 use mathlib.Core.Path.{_≡_}
 use mathlib.Core.Bool.{Bool, true, false, cond, _&&_, _||_, not}
 use mathlib.Core.List.{List, [], _∷_}
-use Prim.Native.Nat.{ℕ, suc, _+_, _-_, _/_, _^_, _≤_, _<_}
+use Prim.Native.Nat.{ℕ, suc, _+_, _/_, _^_, _≤_, _<_}
 use lib.Dec.{eqb, leb, ltb}
 use lib.ListN.{length, getD, take}
 use Rattle.base.specs.Format.{SYNC, syncWord, majorFrame}
@@ -12,18 +12,19 @@ use Rattle.labelling.specs.Words.{Vote}
 use Rattle.labelling.specs.Votes.{ruleVote}
 use Rattle.labelling.specs.MinorFrames.{isWord}
 use Rattle.labelling.specs.Machine.{fresh}
-use Rattle.labelling.specs.Order.{isRule, inOrder}
+use Rattle.labelling.specs.Order.{inOrder}
 use Rattle.labelling.specs.Calls.{TakeCall, takeRefusal, answer, Call, paid}
-use Rattle.labelling.specs.Once.{freshRefusal, ruleGiven}
 use Rattle.own_sync.specs.Locks.{toLock}
-use Rattle.own_sync.specs.OwnOnce.{OwnOnce}
 use Rattle.own_sync.specs.Relocking.{locked, awaitsAfter, leadIn, afterLeadIn, Relocked as RelockedCalls}
 use Rattle.reader.specs.Shapes.{callOf}
 use Rattle.relocking.specs.declared.Feeder.{Feeder}
-use Rattle.relocking.specs.declared.Reel.{Reel}
 use Rattle.relocking.specs.declared.Relocked.{Relocked}
 
--- ---- when a feeder is in order, and when a step is refused
+-- ---- a feeder, and when a step is refused
+
+-- a reel begins with the fresh tally of a rule, at no lock
+abbrev pub beginning : ℕ → Feeder
+beginning rule = record { tally = fresh rule; awaits = false; handed = 0 }
 
 -- a lock that awaits its word stands before place 0, and outside a group
 abbrev pub standsAtLock : Tally → Bool
@@ -139,48 +140,3 @@ ReadsOn f part waits old r new = let c = callOf (f .tally) part old in Called c 
 pub record LeadsIn (f : Feeder) (piece old : List ℕ) (r : Relocked) (new : List ℕ) : Type 0 where
   pub lead-accepted : takeRefusal (leadIn (callOf (f .tally) piece old)) ≡ 0
   pub led : Called (callLed f piece old) (locked (callLed f piece old)) (f .handed + 1) r new
-
--- ---- a whole reel
-
--- the most bytes of a reel that always fit into 2^40 with their lead-ins: a lead-in goes with 512 bytes of the reel, but for the first
-abbrev pub longest : ℕ
-longest = 2 ^ 39 - 12
-
--- the refusal where a fresh tally is refused n; the lengths of the stream and of the area
-abbrev pub refusalAfter : ℕ → ℕ → ℕ → ℕ
-refusalAfter n stream area = cond (eqb n 0) (refusal (2 when not (eqb area majorFrame) ∷ 3 when ltb longest stream ∷ [])) n
-
--- 15 first
-unfoldable pub readRefusal : ℕ → ℕ → ℕ → ℕ
-readRefusal rule stream area = refusalAfter (freshRefusal rule) stream area
-
--- it begins with the fresh tally of a rule, at no lock
-abbrev pub beginning : ℕ → Feeder
-beginning rule = record { tally = fresh rule; awaits = false; handed = 0 }
-
--- the whole stream is read from the feeder of a rule: its calls have taken the stream's bytes and the lead-ins that r counts
-pub record WholeReel (rule : ℕ) (stream old : List ℕ) (r : Reel) (new : List ℕ) : Type 0 where
-  pub calls : List Call
-  pub relocks : RelockedCalls false (fresh rule) old stream calls (r .feeder .awaits) (r .feeder .tally) new (r .feeder .handed)
-  -- the claim
-  pub once : OwnOnce rule old stream calls (r .feeder .tally) new (r .feeder .handed)
-  pub paid-is : r .paid ≡ length (paid calls)
-
--- `read` of a stream by a rule answers r; the area is old before it and new afterwards
-pub record ReadPromise (rule : ℕ) (stream old : List ℕ) (r : Reel) (new : List ℕ) : Type 0 where
-  pub refusal-is : r .refusal ≡ readRefusal rule (length stream) (length old)
-  pub refused : (n : ℕ) → r .refusal ≡ suc n → (r ≡ record { refusal = suc n; paid = 0; feeder = beginning (ruleGiven rule) }) × (new ≡ old)
-  pub accepted : r .refusal ≡ 0 → WholeReel rule stream old r new
-
--- ---- its parts
-
--- a feeder that begins a reel of so many bytes
-pub record Begins (f : Feeder) (stream area : ℕ) : Type 0 where
-  pub rule-is : isRule (f .tally .rule) ≡ true
-  pub begun : f ≡ beginning (f .tally .rule)
-  pub few : stream ≤ longest
-  pub whole-area : area ≡ majorFrame
-
-pub record ReadAll (f : Feeder) (stream old : List ℕ) (r : Reel) (new : List ℕ) : Type 0 where
-  pub no-refusal : r .refusal ≡ 0
-  pub whole : WholeReel (f .tally .rule) stream old r new

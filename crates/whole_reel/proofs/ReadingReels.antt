@@ -2,9 +2,8 @@
 -- the claim about that list bounds its lead-ins, so that no step is refused. Assumes nothing.
 use mathlib.Core.Path.{_≡_, refl, sym, ap, _∙_}
 use mathlib.Core.Bool.{Bool, true, false, cond, not}
-use mathlib.Core.List.{List, [], _∷_, _++_, append-assoc}
+use mathlib.Core.List.{List, [], _∷_, _++_}
 use Prim.Native.Nat.{ℕ, zero, suc, _+_, _-_, _^_, _≤_, _<_}
-use native.Mathlib.Nat.{zero-add, suc-add}
 use native.Mathlib.Omega.{arith}
 use lib.Dec.{eqb, ltb, eqb·suc-zero}
 use lib.ListN.{length, take, drop, length-append, length-drop}
@@ -16,34 +15,23 @@ use Rattle.labelling.specs.Words.{words}
 use Rattle.labelling.specs.Votes.{ruleVote}
 use Rattle.labelling.specs.Machine.{fresh}
 use Rattle.labelling.specs.Order.{isRule}
-use Rattle.labelling.specs.Calls.{Call, taken, paid}
-use Rattle.own_sync.specs.Locks.{toLock}
+use Rattle.labelling.specs.Calls.{Call, paid}
 use Rattle.own_sync.specs.OwnCut.{seeks}
-use Rattle.own_sync.specs.Relocking.{afterLeadIn, Relocked as RelockedCalls, done, refused, changed, takes-on, leads-in}
+use Rattle.own_sync.specs.Relocking.{Relocked as RelockedCalls, done}
 use Rattle.own_sync.specs.OwnOnce.{OwnOnce}
 use Rattle.own_sync.proofs.OwnCuts.{own-found, few-found}
 use Rattle.own_sync.proofs.OpenGroup.{four-each}
 use Rattle.own_sync.proofs.Relocking.{own-once}
 use Rattle.relocking.specs.declared.Feeder.{Feeder}
-use Rattle.relocking.specs.declared.Reel.{Reel}
 use Rattle.relocking.specs.declared.Relocked.{Relocked}
 use Rattle.relocking.specs.Relock.{feederInOrder, relockRefusal, Move, reads, asks, leads, beforeGroup, givesFirst, move, moved, ledBy}
-use Rattle.relocking.specs.Relock.{RelockPromise}
-use Rattle.relocking.specs.Relock.{longest, refusalAfter, readRefusal, beginning, WholeReel, ReadPromise, Begins, ReadAll}
+use Rattle.relocking.specs.Relock.{RelockPromise, beginning}
 use Rattle.labelling.specs.Once.{freshRefusal, ruleGiven}
 use Rattle.feeding.proofs.CallLists.{paid-append, paid-none}
 use Rattle.relocking.proofs.Relocking.{accepted-by, order-of}
-
--- ---- one list after another
-
-pub relocked-append : {v w x : Bool} {t u s : Tally} {a b c xs ys : List ℕ} {cs ds : List Call} {m n : ℕ} → RelockedCalls v t a xs cs w u b m
-    → RelockedCalls w u b ys ds x s c n → RelockedCalls v t a (xs ++ ys) (cs ++ ds) x s c (m + n)
-relocked-append {n = n} done k = rw (zero-add n) k
-relocked-append (refused c m e h) k = refused c m e (relocked-append h k)
-relocked-append (changed d e h) k = changed d e (relocked-append h k)
-relocked-append {ys = ys} (takes-on {bs = bs} w c e f h) k = rw (append-assoc (taken (toLock c)) bs ys) (takes-on w c e f (relocked-append h k))
-relocked-append {ys = ys} {n = n} (leads-in {bs = bs} {n = m} c e f z o h) k =
-    rw (append-assoc (taken (toLock (afterLeadIn c))) bs ys, suc-add m n) (leads-in c e f z o (relocked-append h k))
+use Rattle.relocking.proofs.CallLists.{relocked-append}
+use Rattle.whole_reel.specs.declared.Reel.{Reel}
+use Rattle.whole_reel.specs.Whole.{longest, refusalAfter, readRefusal, WholeReel, ReadPromise, Begins, ReadAll}
 
 -- ---- a step on the rest of the stream
 

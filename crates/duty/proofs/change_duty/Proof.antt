@@ -1,14 +1,14 @@
--- `reader::change_duty` meets its contract: its tests are the refusal table's, in the table's order. Assumes nothing.
+-- `duty::change_duty` meets its contract: its tests are the refusal table's, in the table's order. Assumes nothing.
 use mathlib.Core.Path.{_≡_, sym, _∙_}
 use mathlib.Core.Bool.{true, false, not}
 use native.Mathlib.Omega.{arith}
 use borrow.Author.Tests.{not-true, not-false}
 use Rattle.labelling.specs.Order.{inOrder}
 use Rattle.labelling.proofs.CallLaws.{duty-not-in-order, no-such-operator, duty-no-refusal}
-use Rattle.reader.proofs.Answers.{unchanged, changed}
+use Rattle.duty.proofs.Answers.{unchanged, changed}
 use borrow.Author.Needs.{needs}
-use Rattle.reader.proofs.duty.change_duty.Statement.{statement}
-use Rattle.reader.proofs.duty.change_duty.Tie as tie
+use Rattle.duty.proofs.change_duty.Statement.{statement}
+use Rattle.duty.proofs.change_duty.Tie as tie
 
 in-order-requires : tie.Need-in-order-requires
 in-order-requires c κs = search needs

@@ -1,8 +1,8 @@
--- `relocking::read_refusal` meets its contract: its tests are the definition's, in that order. Assumes nothing.
+-- `whole_reel::read_refusal` meets its contract: its tests are the definition's, in that order. Assumes nothing.
 use native.Mathlib.Omega.{arith}
-use Rattle.relocking.proofs.ReadingReels.{refused-rule, refused-area, refused-length, not-refused}
-use Rattle.relocking.proofs.read_refusal.Statement.{statement}
-use Rattle.relocking.proofs.read_refusal.Tie as tie
+use Rattle.whole_reel.proofs.ReadingReels.{refused-rule, refused-area, refused-length, not-refused}
+use Rattle.whole_reel.proofs.read_refusal.Statement.{statement}
+use Rattle.whole_reel.proofs.read_refusal.Tie as tie
 
 returns : tie.Need-returns
 returns c = let args = c .before .args in refused-rule (args .rule) (args .stream) (args .area) (c .if1 .taken)

@@ -1,13 +1,13 @@
--- `relocking::read` meets its contract: refused before the first step, or the whole stream from a fresh tally. Assumes nothing.
+-- `whole_reel::read` meets its contract: refused before the first step, or the whole stream from a fresh tally. Assumes nothing.
 use mathlib.Core.Path.{_≡_, sym, ap, _∙_}
 use Prim.Native.Nat.{ℕ}
 use lib.ListN.{length}
 use denote.Ref.{now}
-use Rattle.relocking.specs.Relock.{readRefusal, refusalAfter}
-use Rattle.relocking.proofs.ReadingReels.{read-refused, read-starts, read-whole}
+use Rattle.whole_reel.specs.Whole.{readRefusal, refusalAfter}
+use Rattle.whole_reel.proofs.ReadingReels.{read-refused, read-starts, read-whole}
 use borrow.Author.Needs.{needs}
-use Rattle.relocking.proofs.read.Statement.{statement}
-use Rattle.relocking.proofs.read.Tie as tie
+use Rattle.whole_reel.proofs.read.Statement.{statement}
+use Rattle.whole_reel.proofs.read.Tie as tie
 
 fresh-requires : tie.Need-fresh-requires
 fresh-requires c κs = search needs

@@ -1,12 +1,10 @@
-// The operators (paper 02, request 5): a change of duty, and the booking of a payment.
+// A change of duty (paper 02, request 5): a call that names an operator.
 ghost use mathlib.Core.Path.{_≡_};
-ghost use Rattle.labelling.specs.Operators.{booked as bookedTo, onDuty};
+ghost use Rattle.labelling.specs.Operators.{onDuty};
 ghost use Rattle.labelling.specs.Machine.{withOperators};
-ghost use Rattle.order.specs.Room.{DutyRoom};
-ghost use Rattle.reader.specs.Shapes.{dutyCallOf, DutyPromise};
+ghost use Rattle.duty.specs.Change.{dutyCallOf, DutyPromise};
 use base::refusal::NO_SUCH_OPERATOR;
 use base::refusal::NOT_IN_ORDER;
-use labelling::Operators;
 use labelling::Tally;
 use order::in_order;
 
@@ -50,17 +48,5 @@ pub fn on_duty(t: Tally, operator: u64) -> Tally
     o.duty = operator;
     let mut next = t;
     next.operators = o;
-    next
-}
-
-// A call has taken its bytes: a complete major frame is counted to whoever is on duty.
-pub(crate) fn booked(o: Operators, complete: bool) -> Operators
-    requires { ⌜ DutyRoom o ⌝ }
-    ensures { λ r. ⌜ r ≡ bookedTo complete o ⌝ }
-{
-    let d = o.duty as usize;
-    let p = o.paid;
-    let mut next = o;
-    next.paid[d] = p[d] + complete as u64;
     next
 }

@@ -1,4 +1,4 @@
--- `relocking::read_all` meets its contract: the stream is read as far as the place reached, and the next step goes on there. Assumes nothing.
+-- `whole_reel::read_all` meets its contract: the stream is read as far as the place reached, and the next step goes on there. Assumes nothing.
 use mathlib.Core.Path.{refl, subst}
 use mathlib.Core.Bool.{true}
 use mathlib.Core.List.{List}
@@ -8,10 +8,11 @@ use lib.ListN.{length, drop, length-drop}
 use lib.Seq.{take-all}
 use denote.Ref.{now}
 use borrow.Author.Needs.{needs}
-use Rattle.relocking.specs.Relock.{RelockPromise, Begins}
-use Rattle.relocking.proofs.ReadingReels.{ReadSoFar, read-begins, leads-on, stays-in, at-most-one, reads-more, read-ends}
-use Rattle.relocking.proofs.read_all.Statement.{statement}
-use Rattle.relocking.proofs.read_all.Tie as tie
+use Rattle.relocking.specs.Relock.{RelockPromise}
+use Rattle.whole_reel.specs.Whole.{Begins}
+use Rattle.whole_reel.proofs.ReadingReels.{ReadSoFar, read-begins, leads-on, stays-in, at-most-one, reads-more, read-ends}
+use Rattle.whole_reel.proofs.read_all.Statement.{statement}
+use Rattle.whole_reel.proofs.read_all.Tie as tie
 
 abbrev Inv-loop : tie.InvT-loop
 Inv-loop stream area₀ f₀ at₀ paid₀ area f at paid =

@@ -1,11 +1,11 @@
--- `reader::duty::booked` meets its contract: one more, or none, to the count of whoever is on duty. Assumes nothing.
+-- `reader::booked` meets its contract: one more, or none, to the count of whoever is on duty. Assumes nothing.
 use mathlib.Core.Bool.{Bool, true, false}
 use Prim.Native.Nat.{_≤_}
 use native.Mathlib.Omega.{arith}
 use mir.Val.{boolByte}
 use borrow.Author.Needs.{needs}
-use Rattle.reader.proofs.duty.booked.Statement.{statement}
-use Rattle.reader.proofs.duty.booked.Tie as tie
+use Rattle.reader.proofs.booked.Statement.{statement}
+use Rattle.reader.proofs.booked.Tie as tie
 
 at-most-one : (b : Bool) → boolByte b ≤ 1
 at-most-one true = omega arith
