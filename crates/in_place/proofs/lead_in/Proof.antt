@@ -1,4 +1,5 @@
 -- `in_place::lead_in` meets its contract: the words at places 0 to 2, and their counts. Assumes nothing.
+use mathlib.Core.Path.{refl}
 use native.Mathlib.Nat.{add-zero}
 use borrow.Author.Needs.{needs}
 use Rattle.in_place.proofs.lead_in.Statement.{statement}
@@ -23,7 +24,10 @@ element-write-frame-3 : tie.Need-element-write-frame-3
 element-write-frame-3 c = search needs
 
 returns : tie.Need-returns
-returns c = let s = c .before .before .before .before .before .before in rw (s .pre .2, add-zero (s .args .l .groups .fill))
+returns c =
+    let written = c .before .before .before in
+    let s = written .before .before .before in
+    rw (s .pre .2, add-zero (s .args .l .groups .fill)) refl
 
 pub lead-in-spec : {M : Type 1} → statement M
 lead-in-spec =
