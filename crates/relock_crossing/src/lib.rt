@@ -86,10 +86,16 @@ fn stepped(
     refused(number)
 }
 
+// Below a quarter of the limit nothing can pass it: there a plain step has one test less to make, and no division.
+const NEAR: u64 = 1 << 38;
+
 // Whether the tally's bytes have room for the lead-ins that were handed, and whether a lead-in still fits after the piece.
 fn fits(bytes: u64, handed: u64, piece: usize) -> bool
     ensures { λ r. ⌜ Fits bytes handed piece r ⌝ }
 {
+    if (bytes < NEAR) & (handed < NEAR) & ((piece as u64) < NEAR) {
+        return LEAD_IN * handed <= bytes;
+    }
     if bytes / LEAD_IN < handed {
         return false;
     }
