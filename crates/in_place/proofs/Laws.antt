@@ -153,6 +153,8 @@ module _ (n frame piece area : List ℕ) (d : TakeCall) where
           let e = so .0 in
           let left = p .accepted z in
           let same : answerOf taken area′ ≡ answer (toLock d) = rw (left .area-is, left .taken-is, left .complete-is) in
-          let part : PartPromise true d taken area′ = accepted-part e (accepted-promise refl (part-accepted d e) (same ∙ accepted-answer (toLock d) (part-accepted d e))) in
-          let after : framingOf numbers ≡ answer (toLock d) .tally .framing = ap framingOf (left .numbers-is) ∙ framing-back (answer (toLock d) .tally) in
+          let e′ = part-accepted d e in
+          let part : PartPromise true d taken area′ = accepted-part e (accepted-promise refl e′ (same ∙ accepted-answer (toLock d) e′)) in
+          let after : framingOf numbers ≡ answer (toLock d) .tally .framing =
+          ap framingOf (left .numbers-is) ∙ framing-back (answer (toLock d) .tally) in
           lock-promise part locked (k ∙ so .1 (framingOf numbers) ∙ ap (λ (f : Framing). lockedBy (d .tally .framing) f) after)

@@ -1,5 +1,5 @@
--- The lead-in, fed a byte at a time where a lock awaits its word, is three groups of equal copies: so it leaves `ledIn` under either rule, and the call
--- after it begins there. Assumes nothing.
+-- The lead-in, fed a byte at a time where a lock awaits its word, is three groups of equal copies: so it leaves `ledIn` under either rule, and the
+-- call after it begins there. Assumes nothing.
 use mathlib.Core.Path.{_≡_, refl, sym, ap, subst, _∙_}
 use mathlib.Core.Bool.{Bool, true, false}
 use mathlib.Core.List.{List, [], _∷_}
@@ -98,8 +98,9 @@ module _ (n frame piece area : List ℕ) (o : inOrder (tallyOf n frame) ≡ true
 
     lead-answer : answer (leadIn c) ≡ record { tally = begunTally true (c .tally); area = area; taken = 12; complete = false }
     lead-answer =
+        let fed = lead-fed (c .tally .rule) (stateOf (c .tally)) area (h .places) (h .at-first) (h .outside-group) in
         accepted-answer (leadIn c) lead-accepted
-        ∙ ap (λ (r : Progress). answerWith (c .tally) r) (lead-fed (c .tally .rule) (stateOf (c .tally)) area (h .places) (h .at-first) (h .outside-group))
+        ∙ ap (λ (r : Progress). answerWith (c .tally) r) fed
         ∙ rw (none-booked (c .tally .operators))
 
     pub begins-led : Begins true c

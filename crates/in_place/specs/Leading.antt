@@ -1,5 +1,5 @@
--- A call before which the lead-in is handed, on a tally that is lent as its numbers and its frame. What it means is the machine fed the lead-in's twelve
--- bytes (`afterLeadIn`); what the code does is `ledIn`. Definitions only.
+-- A call before which the lead-in is handed, on a tally that is lent as its numbers and its frame. What it means is the machine fed the lead-in's
+-- twelve bytes (`afterLeadIn`); what the code does is `ledIn`. Definitions only.
 use mathlib.Core.Path.{_≡_}
 use mathlib.Core.Bool.{Bool, true, false, cond}
 use mathlib.Core.List.{List, [], _∷_}

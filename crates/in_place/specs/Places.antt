@@ -39,7 +39,8 @@ pub record Kept (c : TakeCall) (before numbers frame area : List ℕ) : Type 0 w
   pub frame-kept : frame ≡ c .tally .frame
   pub area-kept : area ≡ c .area
 
--- the call c on the numbers n is told as r and leaves the places: it is refused, or it answers as d does. Numbers that are no tally's are not in order
+-- the call c on the numbers n is told as r and leaves the places: it is refused, or it answers as d does. Numbers that are no tally's are not in
+-- order
 pub record Answered (c d : TakeCall) (n : List ℕ) (r : Part) (numbers frame area : List ℕ) : Type 0 where
   pub no-tally : isTally n ≡ false → r .refusal ≡ 1
   pub refusal-is : isTally n ≡ true → r .refusal ≡ takeRefusal c

@@ -128,7 +128,8 @@ module _ (n frame feeder piece : List ℕ) (ends : Bool) (old : List ℕ) where
 
     -- a call as far as a lock
     pub step-reads : (waits : Bool) (r : Locked) (numbers left new : List ℕ) → LockedInPlace c n r numbers left new
-        → (relockRefusal f (length piece) (length old) ≡ 0 → (x : Relocked) (y : List ℕ) → ReadsOn f part waits old x y → RelockPromise f piece ends old x y)
+        → (relockRefusal f (length piece) (length old) ≡ 0 → (x : Relocked) (y : List ℕ) → ReadsOn f part waits old x y
+        → RelockPromise f piece ends old x y)
         → StepCrossed n frame feeder piece ends old (stepOf r waits (getD feeder 1 0)) numbers left new
     step-reads waits r numbers left new q promise =
         step-called (toLock c) (stepOf r waits (getD feeder 1 0)) (r .part) numbers left new refl (q .in-place)

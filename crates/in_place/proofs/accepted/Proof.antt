@@ -1,4 +1,5 @@
--- `in_place::accepted` meets its contract: the layers, taken out and put back, are those that the run leaves, with its payment booked. Assumes nothing.
+-- `in_place::accepted` meets its contract: the layers, taken out, led in or not, and put back, are those that the run leaves, with its payment booked.
+-- Assumes nothing.
 use mathlib.Core.Bool.{true}
 use mathlib.Core.Path.{_≡_, refl, sym, ap, subst, _∙_}
 use Prim.Native.Nat.{_<_}
@@ -47,8 +48,9 @@ begin-requires : tie.Need-begin-requires
 begin-requires c κs =
     let made = c .before in
     let s = start made in
-    let placed : s .args .led ≡ true → made .layers-of .result .framing .placed ≡ 0 = λ z. rw (made .layers-of .ensures) (s .pre .leads z .at-first) in
-    ((s .pre .frame-length, rw (made .layers-of .ensures) (state-room (stateOf (asked made .tally)) (state-in-order (asked made .tally) (s .pre .order)) .in-groups)), placed)
+    let t = asked made .tally in
+    let room = state-room (stateOf t) (state-in-order t (s .pre .order)) in
+    rw (made .layers-of .ensures) ((s .pre .frame-length, room .in-groups), λ z. s .pre .leads z .at-first)
 
 -- where the run begins
 module _ (ready : tie.After-begin) where
@@ -113,7 +115,8 @@ module _ (ran : tie.After-run) where
       let b = begun opened in
       let d = partOf (a .stop) (callOf (first ready) (call .piece) (call .area)) in
       let fits = part-fits (a .stop) (first ready) (call .piece) (call .area) (b .order) (args .pre .area-length) (b .fits) in
-      let read : State → Progress = λ x. fed (ruleVote (call .tally .rule)) (a .stop) (call .piece) (record { at = 0; state = x; area = call .area }) in
+      let read : State → Progress = λ x.
+      fed (ruleVote (call .tally .rule)) (a .stop) (call .piece) (record { at = 0; state = x; area = call .area }) in
       ap (λ (r : Progress). answerWith (call .tally) r) (ran .run .ensures ∙ ap read (state-is ready))
       ∙ sym (accepted-answer d fits) ∙ ap (λ (x : TakeCall). answer (partOf (a .stop) x)) (sym (b .call-is))
 

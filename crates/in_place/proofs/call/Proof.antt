@@ -37,8 +37,8 @@ returns : tie.Need-returns
 returns c =
     let tested = c .before .before in
     let a = start tested .args in
-    rw (c .refused .ensures)
-    (not-ordered _ _ _ _ _ (sym (tested .in-order .ensures .0) ∙ not-true _ (c .before .if1 .taken)) (not-in-order (tally tested) (now (a .piece)) (now (a .area))))
+    let out = sym (tested .in-order .ensures .0) ∙ not-true _ (c .before .if1 .taken) in
+    rw (c .refused .ensures) (not-ordered _ _ _ _ _ out (not-in-order (tally tested) (now (a .piece)) (now (a .area))))
 
 refused-requires-2 : tie.Need-refused-requires-2
 refused-requires-2 c κs = search needs
@@ -102,8 +102,8 @@ returns-4 c =
     let w = ordered .before in
     let a = start w .args in
     let fits : getD (now (a .numbers)) 0 0 + length (now (a .piece)) ≤ 2 ^ 40 = omega (arith, bytes-within (tally w) (o .1), fitting .if3 .left) in
-    accepted-call _ _ _ _ _ (o .0) (no-refusal (tally w) (now (a .piece)) (now (a .area)) (o .1) (whole .if2 .left) fits) (called .accepted .ensures .0)
-    (called .accepted .ensures .1)
+    let none = no-refusal (tally w) (now (a .piece)) (now (a .area)) (o .1) (whole .if2 .left) fits in
+    accepted-call _ _ _ _ _ (o .0) none (called .accepted .ensures .0) (called .accepted .ensures .1)
 
 pub call-spec : {M : Type 1} → statement M
 call-spec =

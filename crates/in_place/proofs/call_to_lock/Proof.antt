@@ -44,8 +44,8 @@ returns c =
     let seen = read reread .framing-of .ensures in
     let told = c .has-locked .ensures ∙ ap (λ (f : Framing). lockedBy f (reread .framing-of2 .result)) seen
     ∙ ap (λ (f : Framing). lockedBy (framingOf n) f) (reread .framing-of2 .ensures) in
-    lock-told n (now (a .frame)) (now (a .piece)) (now (a .area)) _ (next-call n (now (a .frame)) (now (a .piece)) (now (a .area)) (a .led) (start reread .pre))
-    _ _ _ _ (called reread .call .ensures) _ told
+    let next = next-call n (now (a .frame)) (now (a .piece)) (now (a .area)) (a .led) (start reread .pre) in
+    lock-told n (now (a .frame)) (now (a .piece)) (now (a .area)) _ next _ _ _ _ (called reread .call .ensures) _ told
 
 pub call-to-lock-spec : {M : Type 1} → statement M
 call-to-lock-spec =

@@ -89,9 +89,10 @@ returns-3 c =
     let tested = first .before in
     let a = start tested .args in
     let number = asked .refusal .ensures in
+    let stands = stood .stands .ensures (now (a .frame)) in
     rw (c .refused .ensures)
     (refused-so _ _ _ (now (a .piece)) (a .ends) (now (a .area)) _ number
-    (λ z. called-else _ _ _ (now (a .piece)) (a .ends) (now (a .area)) (sym number ∙ z) _ _ (tested .fits2 .ensures) (stood .stands .ensures (now (a .frame)))
+    (λ z. called-else _ _ _ (now (a .piece)) (a .ends) (now (a .area)) (sym number ∙ z) _ _ (tested .fits2 .ensures) stands
     (first .if1 .left) (other .if2 .left)))
 
 pub stepped-spec : {M : Type 1} → statement M
