@@ -13,7 +13,7 @@ use Rattle.nominal.specs.Effect.{afterPlaced}
 use Rattle.own_sync.specs.Relocking.{leadInBytes, afterLeadIn}
 use Rattle.tally_numbers.specs.Numbers.{isTally, groupsOf, framingOf, tallyOf}
 use Rattle.in_place.specs.declared.Locked.{Locked}
-use Rattle.in_place.specs.Places.{LockAnswered}
+use Rattle.in_place.specs.Places.{refusedWith, Kept, LockAnswered}
 
 -- a lock awaits its word, and before a piece of this length the lead-in fits
 pub record LeadFits (n : List ℕ) (piece : ℕ) : Type 0 where
@@ -29,6 +29,11 @@ afterLead led c = cond led (afterLeadIn c) c
 -- `lead_and_take` of the call c: it is refused as c is, and else it answers as c does after the lead-in
 abbrev pub LedInPlace : TakeCall → List ℕ → Locked → List ℕ → List ℕ → List ℕ → Type 0
 LedInPlace c = LockAnswered c (afterLeadIn c)
+
+-- the same of any numbers: where no lock awaits its word, or the lead-in does not fit, it is refused as a tally not in order is
+pub record LeadPromise (c : TakeCall) (n : List ℕ) (piece : ℕ) (r : Locked) (numbers frame area : List ℕ) : Type 0 where
+  pub fits : LeadFits n piece → LedInPlace c n r numbers frame area
+  pub misses : (LeadFits n piece → ⊥) → (r .part ≡ refusedWith 1) × Kept c n numbers frame area
 
 -- ---- its parts
 

@@ -13,7 +13,7 @@ ghost use Rattle.plain_steps.specs.Shapes.{stateWith};
 ghost use Rattle.reader.specs.Shapes.{partOf};
 ghost use Rattle.tally_numbers.specs.Numbers.{isTally, tallyOf, operatorsOf, numbersOf, countsOnly};
 ghost use Rattle.in_place.specs.Places.{callIn, layersIn, refusedWith, Left, Answered, InPlace, LockAnswered, LockedInPlace};
-ghost use Rattle.in_place.specs.Leading.{LeadFits, afterLead, Tested, begunWith, ledIn, LedInPlace};
+ghost use Rattle.in_place.specs.Leading.{LeadFits, afterLead, Tested, begunWith, ledIn, LeadPromise};
 use base::format::MAJOR_FRAME;
 use base::format::SYNC_WORD_0;
 use base::format::SYNC_WORD_1;
@@ -105,19 +105,47 @@ pub fn take_to_lock(
     call_to_lock(numbers, frame, piece, false, area)
 }
 
-// The lead-in of spacing 0 (FA F3 20), and then `reader::take_to_lock` on the piece, as one call. A leaf for those that have tested that a lock
-// awaits its word there and that the lead-in fits.
+// The lead-in of spacing 0 (FA F3 20), and then `reader::take_to_lock` on the piece, as one call. Where no lock awaits its word, or the lead-in does not
+// fit, it is refused as a tally not in order is.
 pub fn lead_and_take(
     numbers: &mut [u64; NUMBERS],
     frame: &mut [u8; 128],
     piece: &[u8],
     area: &mut [u8],
 ) -> Locked
-    requires { ⌜ LeadFits (now numbers) (length (now piece)) ⌝ }
-    ensures { λ r. ⌜ LedInPlace (callIn (now (numbers .entry)) (now (frame .entry)) (now (piece .entry)) (now (area .entry))) (now (numbers .entry)) r
-        (now (numbers .exit)) (now (frame .exit)) (now (area .exit)) ⌝ }
+    ensures { λ r. ⌜ LeadPromise (callIn (now (numbers .entry)) (now (frame .entry)) (now (piece .entry)) (now (area .entry))) (now (numbers .entry))
+        (length (now (piece .entry))) r (now (numbers .exit)) (now (frame .exit)) (now (area .exit)) ⌝ }
 {
+    if !lead_fits(&*numbers, piece.len()) {
+        let part = refused(NOT_IN_ORDER);
+        return Locked {
+            part: part,
+            locked: false,
+        };
+    }
     call_to_lock(numbers, frame, piece, true, area)
+}
+
+// Whether a lock awaits its word, and the lead-in fits before a piece of this length.
+fn lead_fits(n: &[u64; NUMBERS], piece: usize) -> bool
+    ensures { λ r. ⌜ (r ≡ true → LeadFits (now (n .entry)) piece) × (r ≡ false → LeadFits (now (n .entry)) piece → ⊥) ⌝ }
+{
+    if n[13] == 1 {
+        return false;
+    }
+    if n[12] != 0 {
+        return false;
+    }
+    if n[5] != 0 {
+        return false;
+    }
+    if LIMIT - LEAD_IN < n[0] {
+        return false;
+    }
+    if LIMIT - LEAD_IN - n[0] < piece as u64 {
+        return false;
+    }
+    true
 }
 
 fn call_to_lock(

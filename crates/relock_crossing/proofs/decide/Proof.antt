@@ -121,9 +121,7 @@ returns-4 c =
     (sym (voted .begins-frame .ensures) ∙ first .if4 .taken)))
 
 lead-and-take-requires : tie.Need-lead-and-take-requires
-lead-and-take-requires c κs =
-    let other = c .before .before .before in
-    lead-fits _ _ _ _ (start (other .before) .pre .0)
+lead-and-take-requires c κs = search needs
 
 add-read : tie.Need-add-read
 add-read c =
@@ -146,7 +144,7 @@ returns-5 c =
     let s = start voted in
     let piece = now (s .args .piece) in
     rw (c .read3 .ensures)
-    (step-leads _ _ _ piece _ _ (ready-waiting _ _ _ _ (s .pre .0)) _ _ _ _ (led .lead-and-take .ensures)
+    (step-leads _ _ _ piece _ _ (ready-waiting _ _ _ _ (s .pre .0)) _ _ _ _ (led .lead-and-take .ensures .fits (lead-fits _ _ _ _ (s .pre .0)))
     (λ a. leads-other _ piece _ _ a (rw (s .pre .0 .awaits) refl) (s .pre .1) (omega (arith, whole voted .if1 .left))
     (sym (voted .begins-frame .ensures) ∙ other .if4 .left)))
 
