@@ -22,10 +22,10 @@ use Rattle.own_sync.proofs.Locks.{part-accepted}
 use Rattle.tally_numbers.specs.Numbers.{groupNumbers, framingNumbers, runNumbers, weakNumbers, operatorsOf, numbersOf, countsOnly, isTally, framingOf, tallyOf}
 use Rattle.tally_numbers.proofs.Numbers.{framing-back}
 use Rattle.reader.specs.declared.Taken.{Taken}
-use Rattle.reader.specs.Shapes.{answerOf, partOf, PartPromise, lockedBy, LockPromise}
+use Rattle.reader.specs.Shapes.{answerOf, PartPromise, lockedBy, LockPromise}
 use Rattle.reader.proofs.Answers.{accepted-promise, accepted-part, lock-promise}
 use Rattle.in_place.specs.declared.Part.{Part}
-use Rattle.in_place.specs.Places.{callIn, refusedWith, Left, InPlace, LockedInPlace}
+use Rattle.in_place.specs.Places.{callIn, refusedWith, Left, Answered, LockAnswered}
 
 -- ---- a payment among the numbers
 
@@ -87,13 +87,14 @@ eight-booked n complete = length-set (operatorsOf n .paid) (getD n 31 0) (getD (
 
 -- ---- a call
 
-module _ (stop : Bool) (n frame piece area : List ℕ) where
+-- on the numbers n, which answers as d does
+module _ (n frame piece area : List ℕ) (d : TakeCall) where
   abbrev c : TakeCall
   c = callIn n frame piece area
 
   -- nothing was written
   refused-so : (m : ℕ) → (isTally n ≡ false → suc m ≡ 1) → (isTally n ≡ true → suc m ≡ takeRefusal c)
-      → InPlace stop c n (refusedWith (suc m)) n frame area
+      → Answered c d n (refusedWith (suc m)) n frame area
   refused-so m f t = record {
     no-tally = f;
     refusal-is = t;
@@ -102,14 +103,14 @@ module _ (stop : Bool) (n frame piece area : List ℕ) where
   }
 
   pub not-ordered : (isTally n && inOrder (tallyOf n frame)) ≡ false → (inOrder (tallyOf n frame) ≡ false → takeRefusal c ≡ 1)
-      → InPlace stop c n (refusedWith 1) n frame area
+      → Answered c d n (refusedWith 1) n frame area
   not-ordered e q = refused-so 0 (λ z. refl) (λ z. sym (q (rw z at e)))
 
-  pub refused-call : (m : ℕ) → isTally n ≡ true → takeRefusal c ≡ suc m → InPlace stop c n (refusedWith (suc m)) n frame area
+  pub refused-call : (m : ℕ) → isTally n ≡ true → takeRefusal c ≡ suc m → Answered c d n (refusedWith (suc m)) n frame area
   refused-call m e q = refused-so m (λ z. absurd (true≢false (sym e ∙ z))) (λ z. sym q)
 
   pub accepted-call : {r : Part} {numbers frame′ area′ : List ℕ} → isTally n ≡ true → takeRefusal c ≡ 0 → r .refusal ≡ 0
-      → Left (answer (partOf stop c)) r numbers frame′ area′ → InPlace stop c n r numbers frame′ area′
+      → Left (answer d) r numbers frame′ area′ → Answered c d n r numbers frame′ area′
   accepted-call e q z l = record {
     no-tally = λ y. absurd (true≢false (sym e ∙ y));
     refusal-is = λ y. z ∙ sym q;
@@ -123,9 +124,9 @@ both true b e = (refl, e)
 both false b e = absurd (true≢false (sym e))
 
 -- numbers that are no tally's are refused
-pub tally-accepted : (stop : Bool) (c : TakeCall) (n : List ℕ) (r : Part) (numbers frame area : List ℕ) → InPlace stop c n r numbers frame area
+pub tally-accepted : (c d : TakeCall) (n : List ℕ) (r : Part) (numbers frame area : List ℕ) → Answered c d n r numbers frame area
     → r .refusal ≡ 0 → isTally n ≡ true
-tally-accepted stop c n r numbers frame area p z = go (isTally n) refl
+tally-accepted c d n r numbers frame area p z = go (isTally n) refl
   where
     go : (b : Bool) → isTally n ≡ b → isTally n ≡ true
     go true e = e
@@ -133,24 +134,27 @@ tally-accepted stop c n r numbers frame area p z = go (isTally n) refl
 
 -- ---- a lock
 
-module _ (n frame piece area : List ℕ) where
+-- of the call c on the numbers n, which answers as d does as far as a lock; d hunts as c does
+module _ (n frame piece area : List ℕ) (d : TakeCall) where
   abbrev asked : TakeCall
   asked = callIn n frame piece area
 
-  pub lock-told : (r : Part) (numbers frame′ area′ : List ℕ) → InPlace true asked n r numbers frame′ area′ → (locked : Bool)
-      → locked ≡ lockedBy (framingOf n) (framingOf numbers) → LockedInPlace asked n (record { part = r; locked = locked }) numbers frame′ area′
-  lock-told r numbers frame′ area′ p locked k = record { in-place = p; promised = promised }
+  pub lock-told : (takeRefusal asked ≡ 0 → (takeRefusal d ≡ 0) × ((f : Framing) → lockedBy (framingOf n) f ≡ lockedBy (d .tally .framing) f))
+      → (r : Part) (numbers frame′ area′ : List ℕ) → Answered asked (toLock d) n r numbers frame′ area′ → (locked : Bool)
+      → locked ≡ lockedBy (framingOf n) (framingOf numbers) → LockAnswered asked d n (record { part = r; locked = locked }) numbers frame′ area′
+  lock-told next r numbers frame′ area′ p locked k = record { in-place = p; promised = promised }
     where
       taken : Taken
-      taken = record { refusal = 0; taken = r .taken; complete = r .complete; tally = answer (toLock asked) .tally }
+      taken = record { refusal = 0; taken = r .taken; complete = r .complete; tally = answer (toLock d) .tally }
 
-      promised : r .refusal ≡ 0 → LockPromise asked (record { taken = taken; locked = locked }) area′
+      promised : r .refusal ≡ 0 → LockPromise d (record { taken = taken; locked = locked }) area′
       promised z =
-          let e : takeRefusal asked ≡ 0 = sym (p .refusal-is (tally-accepted true asked n r numbers frame′ area′ p z)) ∙ z in
+          let so = next (sym (p .refusal-is (tally-accepted asked (toLock d) n r numbers frame′ area′ p z)) ∙ z) in
+          let e = so .0 in
           let left = p .accepted z in
-          let same : answerOf taken area′ ≡ answer (toLock asked) = rw (left .area-is, left .taken-is, left .complete-is) in
-          let part : PartPromise true asked taken area′ =
-          accepted-part e (accepted-promise refl (part-accepted asked e) (same ∙ accepted-answer (toLock asked) (part-accepted asked e))) in
-          let after : framingOf numbers ≡ answer (toLock asked) .tally .framing =
-          ap framingOf (left .numbers-is) ∙ framing-back (answer (toLock asked) .tally) in
-          lock-promise part locked (k ∙ ap (λ (f : Framing). lockedBy (framingOf n) f) after)
+          let same : answerOf taken area′ ≡ answer (toLock d) = rw (left .area-is, left .taken-is, left .complete-is) in
+          let e′ = part-accepted d e in
+          let part : PartPromise true d taken area′ = accepted-part e (accepted-promise refl e′ (same ∙ accepted-answer (toLock d) e′)) in
+          let after : framingOf numbers ≡ answer (toLock d) .tally .framing =
+          ap framingOf (left .numbers-is) ∙ framing-back (answer (toLock d) .tally) in
+          lock-promise part locked (k ∙ so .1 (framingOf numbers) ∙ ap (λ (f : Framing). lockedBy (d .tally .framing) f) after)

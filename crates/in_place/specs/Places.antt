@@ -39,13 +39,17 @@ pub record Kept (c : TakeCall) (before numbers frame area : List ℕ) : Type 0 w
   pub frame-kept : frame ≡ c .tally .frame
   pub area-kept : area ≡ c .area
 
--- `take_part` of the call c on the numbers n, or of its part as far as a lock where that stops it, answers r and leaves the places: numbers that are no
--- tally's are not in order
-pub record InPlace (stop : Bool) (c : TakeCall) (n : List ℕ) (r : Part) (numbers frame area : List ℕ) : Type 0 where
+-- the call c on the numbers n is told as r and leaves the places: it is refused, or it answers as d does. Numbers that are no tally's are not in
+-- order
+pub record Answered (c d : TakeCall) (n : List ℕ) (r : Part) (numbers frame area : List ℕ) : Type 0 where
   pub no-tally : isTally n ≡ false → r .refusal ≡ 1
   pub refusal-is : isTally n ≡ true → r .refusal ≡ takeRefusal c
   pub refused : (r .refusal ≡ 0 → ⊥) → Kept c n numbers frame area
-  pub accepted : r .refusal ≡ 0 → Left (answer (partOf stop c)) r numbers frame area
+  pub accepted : r .refusal ≡ 0 → Left (answer d) r numbers frame area
+
+-- `take_part` of the call c: its answer is the call's own, or that of its part as far as a lock where that stops it
+abbrev pub InPlace : Bool → TakeCall → List ℕ → Part → List ℕ → List ℕ → List ℕ → Type 0
+InPlace stop c = Answered c (partOf stop c)
 
 -- an accepted call as far as a lock, as the reader answers it
 abbrev pub lockedOf : TakeCall → Locked → ReaderLocked
@@ -54,7 +58,11 @@ lockedOf c r = record {
   locked = r .locked;
 }
 
--- `take_to_lock` of the call c on the numbers n answers r and leaves the places: the part as far as a lock, and what the reader promises of it
-pub record LockedInPlace (c : TakeCall) (n : List ℕ) (r : Locked) (numbers frame area : List ℕ) : Type 0 where
-  pub in-place : InPlace true c n (r .part) numbers frame area
-  pub promised : r .part .refusal ≡ 0 → LockPromise c (lockedOf c r) area
+-- the same of a call as far as a lock: it answers as the part of d, and what the reader promises of d holds
+pub record LockAnswered (c d : TakeCall) (n : List ℕ) (r : Locked) (numbers frame area : List ℕ) : Type 0 where
+  pub in-place : Answered c (toLock d) n (r .part) numbers frame area
+  pub promised : r .part .refusal ≡ 0 → LockPromise d (lockedOf d r) area
+
+-- `take_to_lock` of the call c
+abbrev pub LockedInPlace : TakeCall → List ℕ → Locked → List ℕ → List ℕ → List ℕ → Type 0
+LockedInPlace c = LockAnswered c c

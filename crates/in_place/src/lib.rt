@@ -1,18 +1,23 @@
 // The reader's calls in place: on the numbers of a tally and on its frame where they lie. The counts are read once and written once, and the frame is
 // filled where it is, so that a call on a small piece costs no copy of a tally.
 ghost use mathlib.Core.Path.{_≡_};
-ghost use mathlib.Core.Bool.{true, _&&_};
+ghost use mathlib.Core.Bool.{true, false, _&&_};
 ghost use Prim.Native.Nat.{_+_, _≤_, _^_};
 ghost use lib.ListN.{length, getD};
 ghost use Rattle.base.specs.Format.{minorFrame, majorFrame};
 ghost use Rattle.labelling.specs.Calls.{answer};
 ghost use Rattle.labelling.specs.Order.{inOrder};
 ghost use Rattle.labelling.specs.Operators.{booked};
-ghost use Rattle.order.specs.Room.{DutyRoom};
+ghost use Rattle.order.specs.Room.{GroupsRoom, DutyRoom};
+ghost use Rattle.plain_steps.specs.Shapes.{stateWith};
 ghost use Rattle.reader.specs.Shapes.{partOf};
 ghost use Rattle.tally_numbers.specs.Numbers.{isTally, tallyOf, operatorsOf, numbersOf, countsOnly};
-ghost use Rattle.in_place.specs.Places.{callIn, layersIn, refusedWith, Left, InPlace, LockedInPlace};
+ghost use Rattle.in_place.specs.Places.{callIn, layersIn, refusedWith, Left, Answered, InPlace, LockAnswered, LockedInPlace};
+ghost use Rattle.in_place.specs.Leading.{LeadFits, afterLead, Tested, begunWith, ledIn, LeadPromise};
 use base::format::MAJOR_FRAME;
+use base::format::SYNC_WORD_0;
+use base::format::SYNC_WORD_1;
+use base::format::SYNC_WORD_2;
 use base::refusal::NOT_IN_ORDER;
 use base::refusal::TOO_MANY_BYTES;
 use base::refusal::WRONG_LENGTH;
@@ -26,6 +31,9 @@ const PAID: usize = 23;
 const DUTY: usize = 31;
 
 const RULE: usize = 32;
+
+// How many bytes the lead-in of spacing 0 has.
+const LEAD_IN: u64 = 12;
 
 // The answer of a call.
 pub struct Part {
@@ -48,6 +56,23 @@ pub fn take_part(
     ensures { λ r. ⌜ InPlace stop (callIn (now (numbers .entry)) (now (frame .entry)) (now (piece .entry)) (now (area .entry))) (now (numbers .entry)) r
         (now (numbers .exit)) (now (frame .exit)) (now (area .exit)) ⌝ }
 {
+    call(numbers, frame, piece, stop, false, area)
+}
+
+// Every call goes through here, so that the run has one place in a program. `led` says that the lead-in is handed before the piece.
+fn call(
+    numbers: &mut [u64; NUMBERS],
+    frame: &mut [u8; 128],
+    piece: &[u8],
+    stop: bool,
+    led: bool,
+    area: &mut [u8],
+) -> Part
+    requires { ⌜ (led ≡ true → LeadFits (now numbers) (length (now piece))) ⌝ }
+    ensures { λ r. ⌜ Answered (callIn (now (numbers .entry)) (now (frame .entry)) (now (piece .entry)) (now (area .entry)))
+        (partOf stop (afterLead led (callIn (now (numbers .entry)) (now (frame .entry)) (now (piece .entry)) (now (area .entry))))) (now (numbers .entry)) r
+        (now (numbers .exit)) (now (frame .exit)) (now (area .exit)) ⌝ }
+{
     if !in_order(&*numbers, &*frame) {
         return refused(NOT_IN_ORDER);
     }
@@ -57,7 +82,7 @@ pub fn take_part(
     if LIMIT - numbers[0] < piece.len() as u64 {
         return refused(TOO_MANY_BYTES);
     }
-    accepted(numbers, frame, piece, stop, area)
+    accepted(numbers, frame, piece, stop, led, area)
 }
 
 // The answer of a call that also stops at a lock.
@@ -77,8 +102,66 @@ pub fn take_to_lock(
     ensures { λ r. ⌜ LockedInPlace (callIn (now (numbers .entry)) (now (frame .entry)) (now (piece .entry)) (now (area .entry))) (now (numbers .entry)) r
         (now (numbers .exit)) (now (frame .exit)) (now (area .exit)) ⌝ }
 {
+    call_to_lock(numbers, frame, piece, false, area)
+}
+
+// The lead-in of spacing 0 (FA F3 20), and then `reader::take_to_lock` on the piece, as one call. Where no lock awaits its word, or the lead-in does not
+// fit, it is refused as a tally not in order is.
+pub fn lead_and_take(
+    numbers: &mut [u64; NUMBERS],
+    frame: &mut [u8; 128],
+    piece: &[u8],
+    area: &mut [u8],
+) -> Locked
+    ensures { λ r. ⌜ LeadPromise (callIn (now (numbers .entry)) (now (frame .entry)) (now (piece .entry)) (now (area .entry))) (now (numbers .entry))
+        (length (now (piece .entry))) r (now (numbers .exit)) (now (frame .exit)) (now (area .exit)) ⌝ }
+{
+    if !lead_fits(&*numbers, piece.len()) {
+        let part = refused(NOT_IN_ORDER);
+        return Locked {
+            part: part,
+            locked: false,
+        };
+    }
+    call_to_lock(numbers, frame, piece, true, area)
+}
+
+// Whether a lock awaits its word, and the lead-in fits before a piece of this length.
+fn lead_fits(n: &[u64; NUMBERS], piece: usize) -> bool
+    ensures { λ r. ⌜ (r ≡ true → LeadFits (now (n .entry)) piece) × (r ≡ false → LeadFits (now (n .entry)) piece → ⊥) ⌝ }
+{
+    if n[13] == 1 {
+        return false;
+    }
+    if n[12] != 0 {
+        return false;
+    }
+    if n[5] != 0 {
+        return false;
+    }
+    if LIMIT - LEAD_IN < n[0] {
+        return false;
+    }
+    if LIMIT - LEAD_IN - n[0] < piece as u64 {
+        return false;
+    }
+    true
+}
+
+fn call_to_lock(
+    numbers: &mut [u64; NUMBERS],
+    frame: &mut [u8; 128],
+    piece: &[u8],
+    led: bool,
+    area: &mut [u8],
+) -> Locked
+    requires { ⌜ (led ≡ true → LeadFits (now numbers) (length (now piece))) ⌝ }
+    ensures { λ r. ⌜ LockAnswered (callIn (now (numbers .entry)) (now (frame .entry)) (now (piece .entry)) (now (area .entry)))
+        (afterLead led (callIn (now (numbers .entry)) (now (frame .entry)) (now (piece .entry)) (now (area .entry)))) (now (numbers .entry)) r
+        (now (numbers .exit)) (now (frame .exit)) (now (area .exit)) ⌝ }
+{
     let before = tally_numbers::framing_of(&*numbers);
-    let part = take_part(numbers, frame, piece, true, area);
+    let part = call(numbers, frame, piece, true, led, area);
     let after = tally_numbers::framing_of(&*numbers);
     let locked = reader::has_locked(before, after);
     Locked {
@@ -115,17 +198,18 @@ fn accepted(
     frame: &mut [u8; 128],
     piece: &[u8],
     stop: bool,
+    led: bool,
     area: &mut [u8],
 ) -> Part
-    requires { ⌜ (isTally (now numbers) ≡ true) × (inOrder (tallyOf (now numbers) (now frame)) ≡ true) ⌝ }
-    requires { ⌜ (length (now frame) ≡ minorFrame) × (length (now area) ≡ majorFrame) × (getD (now numbers) 0 0 + length (now piece) ≤ 2 ^ 40) ⌝ }
+    requires { ⌜ Tested led (now numbers) (now frame) (now piece) (now area) ⌝ }
     ensures { λ r. ⌜ (r .refusal ≡ 0) × Left
-        (answer (partOf stop (callIn (now (numbers .entry)) (now (frame .entry)) (now (piece .entry)) (now (area .entry))))) r
+        (answer (partOf stop (afterLead led (callIn (now (numbers .entry)) (now (frame .entry)) (now (piece .entry)) (now (area .entry)))))) r
         (now (numbers .exit)) (now (frame .exit)) (now (area .exit)) ⌝ }
 {
     let rule = numbers[RULE];
     let layers = layers_of(&*numbers);
-    let r = reader_run::run(rule, stop, layers, piece, frame, area);
+    let begun = begin(led, layers, frame);
+    let r = reader_run::run(rule, stop, begun, piece, frame, area);
     let left = r.layers;
     put_layers(left, r.complete, numbers);
     Part {
@@ -142,6 +226,41 @@ fn layers_of(n: &[u64; NUMBERS]) -> Layers
     let groups = tally_numbers::groups_of(n);
     let framing = tally_numbers::framing_of(n);
     let runs = tally_numbers::runs_of(n);
+    Layers {
+        groups: groups,
+        framing: framing,
+        runs: runs,
+    }
+}
+
+// What the run begins with.
+fn begin(led: bool, l: Layers, frame: &mut [u8; 128]) -> Layers
+    requires { ⌜ (length (now frame) ≡ minorFrame) × GroupsRoom (l .groups) ⌝ }
+    requires { ⌜ (led ≡ true → l .framing .placed ≡ 0) ⌝ }
+    ensures { λ r. ⌜ stateWith r (now (frame .exit)) ≡ begunWith led (stateWith l (now (frame .entry))) ⌝ }
+{
+    if led {
+        return lead_in(l, frame);
+    }
+    l
+}
+
+// The lead-in needs no run: its three words fill places 0 to 2.
+fn lead_in(l: Layers, frame: &mut [u8; 128]) -> Layers
+    requires { ⌜ (length (now frame) ≡ minorFrame) × GroupsRoom (l .groups) × (l .framing .placed ≡ 0) ⌝ }
+    ensures { λ r. ⌜ stateWith r (now (frame .exit)) ≡ ledIn (stateWith l (now (frame .entry))) ⌝ }
+{
+    let mut groups = l.groups;
+    groups.bytes += LEAD_IN;
+    groups.voted += 3;
+    groups.first = SYNC_WORD_2;
+    groups.second = SYNC_WORD_2;
+    let mut framing = l.framing;
+    framing.placed += 3;
+    frame[0] = SYNC_WORD_0;
+    frame[1] = SYNC_WORD_1;
+    frame[2] = SYNC_WORD_2;
+    let runs = l.runs;
     Layers {
         groups: groups,
         framing: framing,

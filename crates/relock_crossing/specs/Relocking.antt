@@ -10,7 +10,7 @@ use Rattle.base.specs.Refusal.{_when_, answered}
 use Rattle.labelling.specs.declared.Tally.{Tally}
 use Rattle.relocking.specs.declared.Feeder.{Feeder}
 use Rattle.relocking.specs.declared.Relocked.{Relocked}
-use Rattle.relocking.specs.Relock.{relockRefusal, move, moved, areaMoved, LeadsIn, RelockPromise}
+use Rattle.relocking.specs.Relock.{standsAtLock, relockRefusal, move, moved, areaMoved, RelockPromise}
 use Rattle.tally_numbers.specs.Numbers.{isTally, tallyOf, numbersOf}
 use Rattle.in_place.specs.declared.Locked.{Locked}
 use Rattle.relock_crossing.specs.declared.Step.{Step}
@@ -65,14 +65,17 @@ pub record RelockCrossed (l : LentFeeder) (piece : List ℕ) (ends : Bool) (r : 
 
 -- ---- its parts
 
--- a feeder whose lock awaits its word
-abbrev pub awaiting : List ℕ → List ℕ → ℕ → Feeder
-awaiting n frame handed = record { tally = tallyOf n frame; awaits = true; handed = handed }
-
 -- whether the bytes have room for the lead-ins that were handed, and for another after the piece
 pub record Fits (bytes handed piece : ℕ) (r : Bool) : Type 0 where
   pub fit : r ≡ true → (handed ≤ bytes / 12) × (bytes + piece + 12 ≤ 2 ^ 40)
   pub miss : r ≡ false → handed ≤ bytes / 12 → bytes + piece + 12 ≤ 2 ^ 40 → ⊥
+
+-- a lock awaits its word, and all holds of the feeder that a step on a piece of this length asks for beside the order of its tally
+pub record Waiting (n frame feeder : List ℕ) (piece : ℕ) : Type 0 where
+  pub awaits : getD feeder 0 0 ≡ 1
+  pub stands : standsAtLock (tallyOf n frame) ≡ true
+  pub few : getD feeder 1 0 ≤ getD n 0 0 / 12
+  pub fits : getD n 0 0 + piece + 12 ≤ 2 ^ 40
 
 abbrev pub refusedStep : ℕ → Step
 refusedStep n = record { refusal = n; taken = 0; complete = false; more = false; awaits = false; handed = 0 }
@@ -103,13 +106,6 @@ pub record Moves (f : Feeder) (piece : List ℕ) (ends : Bool) (old : List ℕ) 
   pub holds : Holds tally numbers frame
   pub no-refusal : s .refusal ≡ 0
   pub promised : RelockPromise f piece ends old (relockedOf s tally) new
-
--- the lead-in, and a call on the piece
-pub record Leads (f : Feeder) (piece old : List ℕ) (s : Step) (numbers frame new : List ℕ) : Type 0 where
-  pub tally : Tally
-  pub holds : Holds tally numbers frame
-  pub no-refusal : s .refusal ≡ 0
-  pub leads-in : LeadsIn f piece old (relockedOf s tally) new
 
 -- the bytes are asked for again
 pub record Asks (n frame : List ℕ) (handed : ℕ) (s : Step) (numbers left : List ℕ) : Type 0 where

@@ -4,9 +4,11 @@ ghost use mathlib.Core.Path.{_≡_};
 ghost use mathlib.Core.Bool.{true, not, _&&_};
 ghost use lib.Dec.{eqb};
 ghost use lib.ListN.{length};
-ghost use Rattle.tally_numbers.specs.Numbers.{isTally};
-ghost use Rattle.relocking.specs.Relock.{feederInOrder, relockRefusal, beforeGroup};
-ghost use Rattle.relock_crossing.specs.Relocking.{isFeeder, feederOf, awaiting, refusedBy, stepOf, refusedStep, Fits, Moves, StepCrossed, Asks, Leads};
+ghost use mathlib.Core.List.{List};
+ghost use Prim.Native.Nat.{ℕ};
+ghost use Rattle.tally_numbers.specs.Numbers.{isTally, tallyOf};
+ghost use Rattle.relocking.specs.Relock.{standsAtLock, feederInOrder, beforeGroup};
+ghost use Rattle.relock_crossing.specs.Relocking.{isFeeder, feederOf, refusedBy, stepOf, refusedStep, Fits, Waiting, StepCrossed, Asks};
 ghost use Rattle.relock_crossing.specs.Relocking.{lentFeeder, RelockCrossed};
 use base::format::MAJOR_FRAME;
 use base::refusal::NOT_IN_ORDER;
@@ -57,7 +59,8 @@ pub(crate) struct Step {
     pub(crate) handed: u64,
 }
 
-// Where no lock awaits its word, the one call tests the order. Everything else is rare, and tests it beforehand too.
+// The call that a step makes tests the order, so that a step tests it once. What is left of the tests comes before it; where one of them fails, the
+// step is refused.
 fn stepped(
     numbers: &mut [u64; NUMBERS],
     frame: &mut [u8; 128],
@@ -71,21 +74,28 @@ fn stepped(
 {
     let handed = feeder[1];
     let awaits = feeder[0];
-    if (awaits == 0) & fits(numbers[0], handed, piece.len()) {
+    let fit = fits(numbers[0], handed, piece.len());
+    if (awaits == 0) & fit {
         let r = in_place::take_to_lock(numbers, frame, piece, area);
         return read(r, false, handed);
     }
-    let number = refusal(&*numbers, &*frame, feeder, piece.len(), area.len());
-    if number != 0 {
-        return refused(number);
+    if (awaits == 1) & fit & stands(&*numbers) {
+        return at_lock(numbers, frame, feeder, piece, ends, area);
     }
-    at_lock(numbers, frame, handed, piece, ends, area)
+    let number = refusal(&*numbers, &*frame, feeder, piece.len(), area.len());
+    refused(number)
 }
+
+// Below a quarter of the limit nothing can pass it: there a plain step has one test less to make, and no division.
+const NEAR: u64 = 1 << 38;
 
 // Whether the tally's bytes have room for the lead-ins that were handed, and whether a lead-in still fits after the piece.
 fn fits(bytes: u64, handed: u64, piece: usize) -> bool
     ensures { λ r. ⌜ Fits bytes handed piece r ⌝ }
 {
+    if (bytes < NEAR) & (handed < NEAR) & ((piece as u64) < NEAR) {
+        return LEAD_IN * handed <= bytes;
+    }
     if bytes / LEAD_IN < handed {
         return false;
     }
@@ -128,11 +138,17 @@ fn refusal(
 fn in_order(n: &[u64; NUMBERS], frame: &[u8; 128], feeder: &[u64; 2]) -> bool
     ensures { λ r. ⌜ r ≡ (isFeeder (now (n .entry)) (now (feeder .entry)) && feederInOrder (feederOf (now (n .entry)) (now (frame .entry)) (now (feeder .entry)))) ⌝ }
 {
-    let at_lock = (n[13] != 1) & (n[12] == 0) & (n[5] == 0);
     in_place::in_order(n, frame)
         & (feeder[0] < 2)
-        & ((feeder[0] != 1) | at_lock)
+        & ((feeder[0] != 1) | stands(n))
         & (feeder[1] <= n[0] / LEAD_IN)
+}
+
+// Whether a lock can await its word here: before place 0, and outside a group.
+fn stands(n: &[u64; NUMBERS]) -> bool
+    ensures { λ r. ⌜ ((frame : List ℕ) → r ≡ standsAtLock (tallyOf (now (n .entry)) frame)) ⌝ }
+{
+    (n[13] != 1) & (n[12] == 0) & (n[5] == 0)
 }
 
 fn refused(number: u8) -> Step
@@ -167,41 +183,46 @@ fn read(r: Locked, waits: bool, handed: u64) -> Step
 fn at_lock(
     numbers: &mut [u64; NUMBERS],
     frame: &mut [u8; 128],
-    handed: u64,
+    feeder: &[u64; 2],
     piece: &[u8],
     ends: bool,
     area: &mut [u8],
 ) -> Step
-    requires { ⌜ (isTally (now numbers) ≡ true) × (relockRefusal (awaiting (now numbers) (now frame) handed) (length (now piece)) (length (now area)) ≡ 0) ⌝ }
-    ensures { λ r. ⌜ Moves (awaiting (now (numbers .entry)) (now (frame .entry)) handed) (now (piece .entry)) ends (now (area .entry)) r
+    requires { ⌜ Waiting (now numbers) (now frame) (now feeder) (length (now piece)) ⌝ }
+    ensures { λ r. ⌜ StepCrossed (now (numbers .entry)) (now (frame .entry)) (now (feeder .entry)) (now (piece .entry)) ends (now (area .entry)) r
         (now (numbers .exit)) (now (frame .exit)) (now (area .exit)) ⌝ }
 {
     let k = relocking::before_group(piece);
     if 0 < k {
         let r = in_place::take_to_lock(numbers, frame, &piece[..k], area);
-        return read(r, true, handed);
+        return read(r, true, feeder[1]);
     }
-    decide(numbers, frame, handed, piece, ends, area)
+    decide(numbers, frame, feeder, piece, ends, area)
 }
 
-// A lock awaits its word, and the piece is empty or begins with the SYNC of that word's group.
+// A lock awaits its word, and the piece is empty or begins with the SYNC of that word's group. Where the word is not whole no call is made that would
+// test the order.
 fn decide(
     numbers: &mut [u64; NUMBERS],
     frame: &mut [u8; 128],
-    handed: u64,
+    feeder: &[u64; 2],
     piece: &[u8],
     ends: bool,
     area: &mut [u8],
 ) -> Step
-    requires { ⌜ (isTally (now numbers) ≡ true) × (relockRefusal (awaiting (now numbers) (now frame) handed) (length (now piece)) (length (now area)) ≡ 0) ⌝ }
-    requires { ⌜ beforeGroup (now piece) ≡ 0 ⌝ }
-    ensures { λ r. ⌜ Moves (awaiting (now (numbers .entry)) (now (frame .entry)) handed) (now (piece .entry)) ends (now (area .entry)) r
+    requires { ⌜ Waiting (now numbers) (now frame) (now feeder) (length (now piece)) × (beforeGroup (now piece) ≡ 0) ⌝ }
+    ensures { λ r. ⌜ StepCrossed (now (numbers .entry)) (now (frame .entry)) (now (feeder .entry)) (now (piece .entry)) ends (now (area .entry)) r
         (now (numbers .exit)) (now (frame .exit)) (now (area .exit)) ⌝ }
 {
+    let handed = feeder[1];
     if piece.len() < 4 {
         if ends | (piece.len() == 0) {
             let r = in_place::take_to_lock(numbers, frame, piece, area);
             return read(r, true, handed);
+        }
+        let number = refusal(&*numbers, &*frame, feeder, piece.len(), area.len());
+        if number != 0 {
+            return refused(number);
         }
         return asks(numbers, frame, handed);
     }
@@ -209,10 +230,11 @@ fn decide(
         let r = in_place::take_to_lock(numbers, frame, piece, area);
         return read(r, false, handed);
     }
-    lead_in(numbers, frame, handed, piece, area)
+    let r = in_place::lead_and_take(numbers, frame, piece, area);
+    read(r, false, handed + 1)
 }
 
-// The word that decides is not whole: nothing is taken, and the numbers are written as they were read.
+// Nothing is taken, and the numbers are written as they were read.
 fn asks(numbers: &mut [u64; NUMBERS], frame: &mut [u8; 128], handed: u64) -> Step
     requires { ⌜ isTally (now numbers) ≡ true ⌝ }
     ensures { λ r. ⌜ Asks (now (numbers .entry)) (now (frame .entry)) handed r (now (numbers .exit)) (now (frame .exit)) ⌝ }
@@ -227,27 +249,4 @@ fn asks(numbers: &mut [u64; NUMBERS], frame: &mut [u8; 128], handed: u64) -> Ste
         awaits: true,
         handed: handed,
     }
-}
-
-// The lead-in, and then a call on the piece.
-fn lead_in(
-    numbers: &mut [u64; NUMBERS],
-    frame: &mut [u8; 128],
-    handed: u64,
-    piece: &[u8],
-    area: &mut [u8],
-) -> Step
-    requires { ⌜ (isTally (now numbers) ≡ true) × (relockRefusal (awaiting (now numbers) (now frame) handed) (length (now piece)) (length (now area)) ≡ 0) ⌝ }
-    ensures { λ r. ⌜ Leads (awaiting (now (numbers .entry)) (now (frame .entry)) handed) (now (piece .entry)) (now (area .entry)) r
-        (now (numbers .exit)) (now (frame .exit)) (now (area .exit)) ⌝ }
-{
-    let lead = in_place::take_part(
-        numbers,
-        frame,
-        b"\x16\xfa\xfa\xfa\x16\xf3\xf3\xf3\x16\x20\x20\x20",
-        false,
-        area,
-    );
-    let r = in_place::take_to_lock(numbers, frame, piece, area);
-    read(r, false, handed + 1)
 }

@@ -1,4 +1,5 @@
 -- `crossing::take` meets its contract: what the call in place leaves, or all as it was. Assumes nothing.
+use native.Mathlib.Omega.{arith}
 use Rattle.crossing.proofs.Crossed.{accepted-crossed, refused-crossed}
 use borrow.Author.Needs.{needs}
 use Rattle.crossing.proofs.take.Statement.{statement}
@@ -13,7 +14,7 @@ same-length c = search needs
 returns : tie.Need-returns
 returns c =
     let called = c .before .before .before .before in
-    refused-crossed _ _ _ _ _ _ (called .take-part .ensures) (c .if1 .taken)
+    refused-crossed _ _ _ _ _ _ (called .take-part .ensures) (λ z. omega (arith, z, c .if1 .taken))
 
 flag-requires : tie.Need-flag-requires
 flag-requires c κs = search needs
@@ -26,7 +27,7 @@ returns-2 c =
     let flagged = c .before in
     let accepted = flagged .before in
     let called = accepted .before .before .before .before in
-    accepted-crossed _ _ _ _ _ _ (called .take-part .ensures) _ (flagged .flag .ensures) (accepted .if1 .left)
+    accepted-crossed _ _ _ _ _ _ (called .take-part .ensures) _ (flagged .flag .ensures) (omega (arith, accepted .if1 .left))
 
 pub take-spec : {M : Type 1} → statement M
 take-spec =

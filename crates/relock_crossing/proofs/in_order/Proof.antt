@@ -13,15 +13,6 @@ use borrow.Author.Needs.{needs}
 use Rattle.relock_crossing.proofs.in_order.Statement.{statement}
 use Rattle.relock_crossing.proofs.in_order.Tie as tie
 
-element-copy-out-at-lock : tie.Need-element-copy-out-at-lock
-element-copy-out-at-lock c = search needs
-
-element-copy-out-at-lock-2 : tie.Need-element-copy-out-at-lock-2
-element-copy-out-at-lock-2 c = search needs
-
-element-copy-out-at-lock-3 : tie.Need-element-copy-out-at-lock-3
-element-copy-out-at-lock-3 c = search needs
-
 in-order-requires : tie.Need-in-order-requires
 in-order-requires c κs = search needs
 
@@ -30,6 +21,9 @@ element-copy-out-result c = search needs
 
 element-copy-out-result-2 : tie.Need-element-copy-out-result-2
 element-copy-out-result-2 c = search needs
+
+stands-requires : tie.Need-stands-requires
+stands-requires c κs = search needs
 
 element-copy-out-result-3 : tie.Need-element-copy-out-result-3
 element-copy-out-result-3 c = search needs
@@ -40,24 +34,24 @@ element-copy-out-result-4 c = search needs
 returns : tie.Need-returns
 unfolding isFeeder feederInOrder
 returns c =
-    let tested = c .before .before .before .before in
-    let s = tested .before .before .before .before in
+    let stood = c .before .before in
+    let tested = stood .before .before .before in
+    let s = tested .before in
     let n = now (s .args .n) in
-    let t = tallyOf n (now (s .args .frame)) in
+    let frame = now (s .args .frame) in
+    let t = tallyOf n frame in
     let feeder = now (s .args .feeder) in
-    rw (tested .in-order .ensures .0)
+    rw (tested .in-order .ensures .0, stood .stands .ensures frame)
     (shuffled (isTally n) (inOrder t) (ltb (getD feeder 0 0) 2) (not (eqb (getD feeder 0 0) 1) || standsAtLock t) (leb (getD feeder 1 0) (getD n 0 0 / 12)))
 
 pub in-order-spec : {M : Type 1} → statement M
 in-order-spec =
     tie.close
     (tie.spec
-    element-copy-out-at-lock
-    element-copy-out-at-lock-2
-    element-copy-out-at-lock-3
     in-order-requires
     element-copy-out-result
     element-copy-out-result-2
+    stands-requires
     element-copy-out-result-3
     element-copy-out-result-4
     returns)

@@ -1,4 +1,5 @@
 -- `crossing::take_to_lock` meets its contract: what the call in place leaves, or all as it was. Assumes nothing.
+use native.Mathlib.Omega.{arith}
 use Rattle.crossing.proofs.LockCrossed.{lock-accepted, lock-refused}
 use borrow.Author.Needs.{needs}
 use Rattle.crossing.proofs.lock.take_to_lock.Statement.{statement}
@@ -12,8 +13,9 @@ same-length c = search needs
 
 returns : tie.Need-returns
 returns c =
-    let called = c .before .before .before .before .before in
-    lock-refused _ _ _ _ _ _ (called .take-to-lock .ensures) (c .if1 .taken)
+    let told = c .before in
+    let called = told .before .before .before .before in
+    lock-refused _ _ _ _ _ _ (called .take-to-lock .ensures) (λ z. omega (arith, z, c .if1 .taken))
 
 flag-requires : tie.Need-flag-requires
 flag-requires c κs = search needs
@@ -28,8 +30,10 @@ returns-2 : tie.Need-returns-2
 returns-2 c =
     let flagged = c .before in
     let accepted = flagged .before .before in
-    let called = accepted .before .before .before .before .before in
-    lock-accepted _ _ _ _ _ _ (called .take-to-lock .ensures) _ _ (flagged .before .flag .ensures) (flagged .flag2 .ensures) (accepted .if1 .left)
+    let told = accepted .before in
+    let called = told .before .before .before .before in
+    lock-accepted _ _ _ _ _ _ (called .take-to-lock .ensures) _ _ (flagged .before .flag .ensures) (flagged .flag2 .ensures)
+    (omega (arith, accepted .if1 .left))
 
 pub take-to-lock-spec : {M : Type 1} → statement M
 take-to-lock-spec =
