@@ -14,8 +14,8 @@ use Rattle.labelling.specs.declared.Word.{Word}
 use Rattle.labelling.specs.declared.Word.the-variants.{Voted, Erased}
 use Rattle.labelling.specs.Words.{byteVote, weakCopy}
 use Rattle.labelling.specs.MajorFrames.{value}
-use Rattle.voted.specs.Copies.{Copies, IsVoted, named, weakIn, sideBySide, agreement, agreements, Summed}
-use Rattle.voted.specs.Stretches.{Decided, ends, fill, group}
+use Rattle.voted.specs.Copies.{Copies, copies, IsVoted, wordOf, named, weakIn, sideBySide, agreement, agreements, Summed}
+use Rattle.voted.specs.Stretches.{Decided, ends, fill, stray, group}
 
 -- ---- one group
 
@@ -82,6 +82,15 @@ told : (g : Copies) → IsVoted g → Parts (eqb (g .first) (g .second)) (eqb (g
 unfolding byteVote
 told g v = parts (g .first) (g .second) (g .third) _ _ _ refl refl refl v
 
+-- three equal copies
+module _ (a b c : ℕ) (second : a ≡ b) (third : a ≡ c) where
+  pub alike-agreement : 0x100010001 ≡ agreement (copies a b c)
+  alike-agreement = rw (eq-eqb a b second, eq-eqb a c third, eq-eqb b c (sym second ∙ third))
+
+  pub alike-word : a ≡ wordOf (copies a b c)
+  unfolding byteVote
+  alike-word = rw (eq-eqb a b second)
+
 -- ---- many groups
 
 -- how many have three equal copies
@@ -92,10 +101,11 @@ record Sums (gs : List Copies) : Type 0 where
   sums-are : agreements gs ≡ sideBySide (named 3 gs + alike gs) (named 2 gs + alike gs) (named 1 gs + alike gs)
   count-is : length gs ≡ named 1 gs + named 2 gs + named 3 gs + alike gs
 
-sums-of : {p : List ℕ} {i j : ℕ} {gs : List Copies} → Decided p i j gs → Sums gs
+sums-of : {p : List ℕ} {i j k : ℕ} {gs : List Copies} → Decided p i j k gs → Sums gs
 unfolding weakCopy
 sums-of ends = record { sums-are = refl; count-is = refl }
 sums-of (fill b n) = sums-of n
+sums-of (stray x b s f n) = sums-of n
 sums-of (group g s v n) =
     let rest = sums-of n in
     let first = told g v in
@@ -104,7 +114,7 @@ sums-of (group g s v n) =
       count-is = omega (arith, rest .count-is, first .whole);
     }
 
-module _ {p : List ℕ} {i j : ℕ} {gs : List Copies} (n : Decided p i j gs) where
+module _ {p : List ℕ} {i j k : ℕ} {gs : List Copies} (n : Decided p i j k gs) where
   pub summed-of : length gs < 0x10000 → Summed (agreements gs) (length gs) (weakIn gs) (alike gs)
   summed-of h = record { sums-are = sums-of n .sums-are; count-is = sums-of n .count-is; few = h }
 
