@@ -1,37 +1,38 @@
+-- `reader_run::stretch::any_voted` meets its contract: what is hunted leaves the frame as it was. Assumes nothing.
+use denote.Ref.{now}
+use Rattle.order.proofs.Rooms.{state-room}
+use Rattle.reader_run.proofs.Onward.{none-onward}
 use borrow.Author.Needs.{needs}
 use Rattle.reader_run.proofs.stretch.any_voted.Statement.{statement}
 use Rattle.reader_run.proofs.stretch.any_voted.Tie as tie
-use Rattle.reader_run.proofs.stretch.any_voted.Reads as reads
-use Rattle.reader_run.proofs.stretch.any_voted.Lts as lts
-use Rattle.reader_run.proofs.stretch.voted_hunt.Reads as voted-hunt-reads
-use Rattle.reader_run.proofs.stretch.voted_run.Reads as voted-run-reads
-use Rattle.voted.proofs.group_stands.Reads as group-stands-reads
 
--- src/stretch.rt:248:9
 group-stands-requires : tie.Need-group-stands-requires
 group-stands-requires c κs = search needs
 
--- src/stretch.rt:249:9
 returns : tie.Need-returns
-returns c = ?
+returns c =
+    let s = c .before .before .before in
+    (none-onward (s .pre .0), s .pre .1)
 
--- src/stretch.rt:252:9
 voted-hunt-requires : tie.Need-voted-hunt-requires
-voted-hunt-requires c κs = ?
+voted-hunt-requires c κs =
+    let s = c .before .before .before .before in
+    let room = state-room _ (s .pre .0 .order) in
+    ((room .in-groups, room .in-framing, s .pre .0 .fits), (s .pre .1, c .if2 .taken))
 
--- src/stretch.rt:252:9
 returns-2 : tie.Need-returns-2
-returns-2 c = ?
+returns-2 c =
+    let s = c .before .before .before .before .before in
+    (c .voted-hunt .ensures .0 (now (s .args .frame)) (s .pre .0), c .voted-hunt .ensures .1)
 
--- src/stretch.rt:255:9
 returns-3 : tie.Need-returns-3
-returns-3 c = ?
+returns-3 c =
+    let s = c .before .before .before .before .before .before in
+    (none-onward (s .pre .0), s .pre .1)
 
--- src/stretch.rt:257:5
 voted-run-requires : tie.Need-voted-run-requires
 voted-run-requires c κs = search needs
 
--- src/stretch.rt:242:1
 returns-4 : tie.Need-returns-4
 returns-4 c = search needs
 

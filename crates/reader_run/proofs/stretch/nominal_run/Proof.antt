@@ -1,24 +1,24 @@
+-- `reader_run::stretch::nominal_run` meets its contract: what is hunted leaves the frame as it was. Assumes nothing.
+use denote.Ref.{now}
+use Rattle.order.proofs.Rooms.{state-room}
 use borrow.Author.Needs.{needs}
 use Rattle.reader_run.proofs.stretch.nominal_run.Statement.{statement}
 use Rattle.reader_run.proofs.stretch.nominal_run.Tie as tie
-use Rattle.reader_run.proofs.stretch.nominal_run.Reads as reads
-use Rattle.reader_run.proofs.stretch.nominal_run.Lts as lts
-use Rattle.reader_run.proofs.stretch.hunt_run.Reads as hunt-run-reads
-use Rattle.reader_run.proofs.stretch.place_run.Reads as place-run-reads
 
--- src/stretch.rt:220:9
 hunt-run-requires : tie.Need-hunt-run-requires
-hunt-run-requires c κs = ?
+hunt-run-requires c κs =
+    let s = c .before .before in
+    let room = state-room _ (s .pre .0 .order) in
+    ((room .in-groups, room .in-framing, s .pre .0 .fits), (s .pre .1, c .if1 .taken))
 
--- src/stretch.rt:220:9
 returns : tie.Need-returns
-returns c = ?
+returns c =
+    let s = c .before .before .before in
+    (c .hunt-run .ensures .0 (now (s .args .frame)) (s .pre .0), c .hunt-run .ensures .1)
 
--- src/stretch.rt:222:5
 place-run-requires : tie.Need-place-run-requires
 place-run-requires c κs = search needs
 
--- src/stretch.rt:213:1
 returns-2 : tie.Need-returns-2
 returns-2 c = search needs
 
