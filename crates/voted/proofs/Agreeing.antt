@@ -3,7 +3,9 @@ use mathlib.Core.Path.{_≡_, refl, sym, _∙_}
 use mathlib.Core.Bool.{Bool, true, false, cond, _&&_, _||_, true≢false}
 use mathlib.Core.List.{List}
 use Prim.Native.Nat.{ℕ, _+_, _*_, _-_, _/_, _%_, _≤_, _<_}
+use native.Mathlib.Nat.{zero-mul, mul-zero, mul-le-mul}
 use native.Mathlib.Omega.{arith}
+use lib.Bits.{bitXor, xor-self, xor-lt}
 use lib.Dec.{eqb}
 use lib.ListN.{length}
 use mir.Val.{boolByte}
@@ -81,6 +83,30 @@ parts a b c false false false p q s v = absurd (let z : _≡_ {A = ℕ} 0 1 = cc
 told : (g : Copies) → IsVoted g → Parts (eqb (g .first) (g .second)) (eqb (g .first) (g .third)) (eqb (g .second) (g .third))
 unfolding byteVote
 told g v = parts (g .first) (g .second) (g .third) _ _ _ refl refl refl v
+
+-- what each two copies differ in, multiplied
+module _ (a b c : ℕ) where
+  pub apart-none : IsVoted (copies a b c) → bitXor a b * bitXor a c * bitXor b c ≡ 0
+  apart-none v = go (eqb a b) (eqb a c) (eqb b c) refl refl refl
+    where
+      go : (x y z : Bool) → eqb a b ≡ x → eqb a c ≡ y → eqb b c ≡ z → bitXor a b * bitXor a c * bitXor b c ≡ 0
+      go true y z e f g =
+          let none : bitXor a b ≡ 0 = rw (eqb-true a b e) (xor-self b) in
+          rw (none, zero-mul (bitXor a c), zero-mul (bitXor b c))
+      go false true z e f g =
+          let none : bitXor a c ≡ 0 = rw (eqb-true a c f) (xor-self c) in
+          rw (none, mul-zero (bitXor a b), zero-mul (bitXor b c))
+      go false false true e f g =
+          let none : bitXor b c ≡ 0 = rw (eqb-true b c g) (xor-self c) in
+          rw (none, mul-zero (bitXor a b * bitXor a c))
+      go false false false e f g = absurd (split-of (copies a b c) (rw (e, f, g)) v)
+
+  pub apart-few : a < 256 → b < 256 → c < 256 → (bitXor a b * bitXor a c ≤ 255 * 255) × (bitXor a b * bitXor a c * bitXor b c ≤ 255 * 255 * 255)
+  apart-few ha hb hc =
+      let x : bitXor a b ≤ 255 = omega (arith, xor-lt 8 a b ha hb) in
+      let y : bitXor a c ≤ 255 = omega (arith, xor-lt 8 a c ha hc) in
+      let z : bitXor b c ≤ 255 = omega (arith, xor-lt 8 b c hb hc) in
+      (mul-le-mul x y, mul-le-mul (mul-le-mul x y) z)
 
 -- three equal copies
 module _ (a b c : ℕ) (second : a ≡ b) (third : a ≡ c) where

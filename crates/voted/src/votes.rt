@@ -85,6 +85,13 @@ pub(crate) fn see(piece: &[u8], at: usize) -> Seen
     }
 }
 
+// 0 where at least two copies are equal: what each two differ in, multiplied. Tests for equal ones would be compiled to branches.
+fn apart(a: u8, b: u8, c: u8) -> u64
+    ensures { λ r. ⌜ (IsVoted (copies a b c) → r ≡ 0) ⌝ }
+{
+    (wide(a) ^ wide(b)) * (wide(a) ^ wide(c)) * (wide(b) ^ wide(c))
+}
+
 // Whether a group of which two copies are equal stands here.
 pub fn group_stands(piece: &[u8], at: usize) -> bool
     ensures { λ r. ⌜ (r ≡ false → (g : Copies) → Group (now (piece .entry)) at g → IsVoted g → ⊥) ⌝ }
@@ -95,7 +102,7 @@ pub fn group_stands(piece: &[u8], at: usize) -> bool
     if piece[at] != SYNC {
         return false;
     }
-    agreeing(piece, at) != 0
+    apart(piece[at + 1], piece[at + 2], piece[at + 3]) == 0
 }
 
 // How often each copy was the weak one in n groups, of which each has two equal copies: where all three are, each two are counted.
