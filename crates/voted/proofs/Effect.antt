@@ -99,7 +99,8 @@ module _ {vote : Vote} {p a : List ℕ} (t : State) (closed : t .groups .«open�
 
 -- ---- a voted stretch
 
--- A way to take groups: `after` is the state after so many bytes with so many stray ones and these groups, and `Fits` says of which groups and states.
+-- A way to take groups: `after` is the state after so many bytes with so many stray ones and these groups, and `Fits` says of which groups and
+-- states.
 record Way (vote : Vote) (a : List ℕ) (after : State → ℕ → ℕ → List Copies → State) (Fits : List Copies → State → Type 0) : Type 0 where
   closed : {gs : List Copies} {t : State} → Fits gs t → t .groups .«open» ≡ 0
   none-is : (t : State) → t ≡ after t 0 0 []
@@ -112,13 +113,15 @@ record Way (vote : Vote) (a : List ℕ) (after : State → ℕ → ℕ → List 
   third : {x : Copies} {gs : List Copies} {t : State} → Fits (x ∷ gs) t → IsVoted x → (b : ℕ) → b ≡ x .third
       → Leads vote a (opened t 3 3 (x .first) (x .second)) b (after t 4 0 (x ∷ []))
 
-module _ {vote : Vote} {p a : List ℕ} (after : State → ℕ → ℕ → List Copies → State) (Fits : List Copies → State → Type 0) (way : Way vote a after Fits) where
+module _ {vote : Vote} {p a : List ℕ} (after : State → ℕ → ℕ → List Copies → State) (Fits : List Copies → State → Type 0)
+    (way : Way vote a after Fits) where
   decided-plain : {i j k : ℕ} {gs : List Copies} → Decided p i j k gs → (t : State) → Fits gs t → PlainSteps vote p a i t j (after t (j - i) k gs)
   decided-plain {i} ends t f = let z : i - i ≡ 0 = omega arith in rw (z, ← way .none-is t) stays
   decided-plain {i} {j} {k} {gs} (fill b n) t f =
       let far = decided-far n in
       let far-on : 1 + (j - (i + 1)) ≡ j - i = omega arith in
-      let same : after (afterQuiet t 1 0) (j - (i + 1)) k gs ≡ after t (j - i) k gs = way .fill-first t (j - (i + 1)) k gs (omega arith) ∙ rw far-on in
+      let same : after (afterQuiet t 1 0) (j - (i + 1)) k gs ≡ after t (j - i) k gs =
+      way .fill-first t (j - (i + 1)) k gs (omega arith) ∙ rw far-on in
       let rest = decided-plain n (afterQuiet t 1 0) (way .fits-quiet 0 f) in
       byte {v = after t (j - i) k gs} (b .inside) (fill-byte vote t a (way .closed f) (getD p i 0) (b .is)) (rw same at rest)
   decided-plain {i} {j} {gs = gs} (stray {n = k} x b s z n) t f =
@@ -127,7 +130,8 @@ module _ {vote : Vote} {p a : List ℕ} (after : State → ℕ → ℕ → List 
       let far-on : 1 + (j - (i + 1)) ≡ j - i = omega arith in
       let same : after (afterQuiet t 1 1) (j - (i + 1)) k gs ≡ after t (j - i) (k + 1) gs =
       way .stray-first t (j - (i + 1)) k gs (omega arith) ∙ rw far-on in
-      let one-byte : PlainSteps vote p a i t (i + 1) (afterQuiet t 1 1) = rw one-on at (quiet-plain {vote = vote} {a = a} (one-stray b s z) t (way .closed f)) in
+      let one-byte : PlainSteps vote p a i t (i + 1) (afterQuiet t 1 1) =
+      rw one-on at (quiet-plain {vote = vote} {a = a} (one-stray b s z) t (way .closed f)) in
       plain-join one-byte (rw same at (decided-plain n (afterQuiet t 1 1) (way .fits-quiet 1 f)))
   decided-plain {i} {j} {k} (group {gs = gs} x g v n) t f =
       let far = decided-far n in

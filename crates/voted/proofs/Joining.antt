@@ -167,7 +167,8 @@ module _ {p : List ℕ} {i q : ℕ} {f : List ℕ} {r : Run} {f′ : List ℕ} (
   pub placed-empty : r .placed ≡ q → Placed p i q f (noGroup (r .at) q (r .stray)) f′
   placed-empty e = go (l .kept .groups) (omega (arith, l .kept .place-is)) (l .kept .stretch) (l .kept .frame-is)
     where
-      go : (gs : List Copies) → length gs ≡ 0 → Decided p i (r .at) (r .stray) gs → f′ ≡ sets f q (words gs) → Placed p i q f (noGroup (r .at) q (r .stray)) f′
+      go : (gs : List Copies) → length gs ≡ 0 → Decided p i (r .at) (r .stray) gs → f′ ≡ sets f q (words gs)
+          → Placed p i q f (noGroup (r .at) q (r .stray)) f′
       go [] z n ef = rw ef (placed-none n (rw e at (l .stops)))
       go (g ∷ gs) z n ef = absurd (omega arith)
 

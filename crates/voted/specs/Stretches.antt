@@ -1,5 +1,5 @@
--- Voted stretches of a piece, which are groups of which at least two copies are equal and any bytes but SYNC between them, taken many bytes at a time.
--- Definitions only.
+-- Voted stretches of a piece, which are groups of which at least two copies are equal and any bytes but SYNC between them, taken many bytes at a
+-- time. Definitions only.
 use mathlib.Core.Path.{_≡_}
 use mathlib.Core.List.{List, [], _∷_}
 use Prim.Native.Nat.{ℕ, _+_, _*_, _≤_, _<_}

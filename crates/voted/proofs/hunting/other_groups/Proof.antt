@@ -1,5 +1,5 @@
--- `voted::hunting::other_groups` meets its contract: the run so far goes on past what is no SYNC, or by one group, at each turn; it ends where there are
--- too many groups, where all copies differ, where the word is FA, or where no whole group is left. Assumes nothing.
+-- `voted::hunting::other_groups` meets its contract: the run so far goes on past what is no SYNC, or by one group, at each turn; it ends where there
+-- are too many groups, where all copies differ, where the word is FA, or where no whole group is left. Assumes nothing.
 use mathlib.Core.Path.{_≡_, sym, _∙_}
 use Prim.Native.Nat.{_+_, _-_, _<_}
 use native.Mathlib.Omega.{arith}
@@ -9,7 +9,8 @@ use Rattle.quiet.specs.Quiet.{Byte}
 use Rattle.quiet.proofs.Joining.{quiet-far}
 use Rattle.voted.specs.Copies.{copiesAt, IsVoted, wordOf}
 use Rattle.voted.proofs.Agreeing.{agreement-few, voted-of}
-use Rattle.voted.proofs.Joining.{Going, decided-far, decided-inside, past-quiet, past-moves, group-at, going-none, going-quiet, going-on, sought}
+use Rattle.voted.proofs.Joining.{decided-far, decided-inside, past-quiet, past-moves, group-at}
+use Rattle.voted.proofs.Joining.{Going, going-none, going-quiet, going-on, sought}
 use Rattle.voted.proofs.Joining.{stops-short, stops-split, stops-left, stops-first}
 use borrow.Author.Needs.{needs}
 use Rattle.voted.proofs.hunting.other_groups.Statement.{statement}
@@ -87,7 +88,7 @@ returns-3 c =
     let p = turn .before .before .before .args .piece .now in
     let told = looked .see .ensures in
     let voted = voted-of (copiesAt p (turn .loop .next .at)) (λ e. some .if4 .left (told .agree-is ∙ e)) in
-    sought (turn .loop .inv) (stops-first (synced .if2 .left) (told .word-is voted) (c .if5 .taken))
+    sought (turn .loop .inv) (stops-first (synced .if2 .left) (told .word-is voted) (omega (arith, c .if5 .taken)))
 
 add-t12 : tie.Need-add-t12 Inv-loop μ-loop
 add-t12 c =
@@ -128,7 +129,7 @@ loop-again-2 c =
     let whole : k .next .at + 3 < length p = omega (arith, sync other .before .before .if1 .taken, turn .before .starts .ensures) in
     let here : Byte p (k .next .at) SYNC = record { inside = omega (arith, whole); is = sync other .if2 .left } in
     let few = seen other .before .if3 .left in
-    let unlike : wordOf g ≡ syncWord 0 → ⊥ = λ e. other .if5 .left (told .word-is voted ∙ e) in
+    let unlike : wordOf g ≡ syncWord 0 → ⊥ = λ e. omega (arith, other .if5 .left, told .word-is voted, e) in
     going-on (k .inv) (omega (arith, few)) (group-at here whole) voted unlike (told .between) (told .agree-is)
 
 returns-4 : tie.Need-returns-4 Inv-loop μ-loop
