@@ -1,4 +1,4 @@
-// Voted stretches in safe Rust: groups of which at least two copies are equal, with FILL between them. Cells are taken in blocks, whose copies are
+// Voted stretches in safe Rust: groups of which at least two copies are equal, with any bytes but SYNC between them. Cells are taken in blocks, whose copies are
 // gathered into three columns and compared as vectors; of other groups it is counted which two copies agree, three counts side by side in one number,
 // and the word comes from masks. So no branch depends on which copy is bad.
 
@@ -15,13 +15,14 @@ const LANES: usize = 64;
 // Three counts stand side by side in 16 bits each.
 const MOST: usize = 0xFFFF;
 
-// What a run has counted: how far it goes, how many groups it has, how often copies agree, and where the last group stands.
+// What a run has counted: how far it goes, how many groups it has, how often copies agree, where the last group stands, and how many bytes are stray.
 #[derive(Default)]
 struct Run {
     bytes: usize,
     groups: usize,
     agreements: u64,
     last: usize,
+    stray: usize,
 }
 
 // Takes what is voted from the first byte on, up to the last place of a frame, or up to a word that the hunt may match: the bytes taken.
@@ -38,12 +39,12 @@ pub fn take(t: &mut Tally, piece: &[u8]) -> usize {
 fn place(t: &mut Tally, piece: &[u8]) -> usize {
     let places = &mut t.frame[t.placed as usize..FRAME - 1];
     let mut run = Run::default();
-    // A block is begun where a group is voted, and the next one where a block took something.
+    // A block is begun where a group is voted, and the next one after a whole block.
     let mut more = group_at(&run, piece).is_some();
     while more {
         more = place_block(&mut run, piece, places);
-        run.bytes += leading_fill(&piece[run.bytes..]);
     }
+    run.past_quiet(piece);
     for place in &mut places[run.groups..] {
         match group_at(&run, piece) {
             Some((agree, word)) => {
@@ -57,7 +58,7 @@ fn place(t: &mut Tally, piece: &[u8]) -> usize {
     run.count(t, piece)
 }
 
-// A block of cells, as many as there are places: whether it took some. It takes none where a group is split. Not inlined, here and below, it is faster.
+// A block of cells, as many as there are places: whether it is whole. It takes none where a group is split. Not inlined, here and below, it is faster.
 #[inline(never)]
 fn place_block(run: &mut Run, piece: &[u8], places: &mut [u8]) -> bool {
     let (mut first, mut second, mut third) = ([0; LANES], [0; LANES], [0; LANES]);
@@ -85,7 +86,7 @@ fn place_block(run: &mut Run, piece: &[u8], places: &mut [u8]) -> bool {
     run.groups += n;
     // Lanes with no cell have three equal copies.
     run.agreements += agreements - (LANES - n) as u64 * side_by_side(1, 1, 1);
-    true
+    n == LANES
 }
 
 // Votes on each lane, whatever stands in it: how often copies agree, and how many lanes are split.
@@ -145,20 +146,38 @@ fn masked(a: u8, b: u8, c: u8) -> u8 {
 }
 
 impl Run {
-    // Past a group and the FILL after it.
+    // Past a group and what stands between it and the next SYNC.
     #[inline(always)]
     fn pass(&mut self, piece: &[u8], agree: u64) {
         self.last = self.bytes;
         self.bytes += GROUP;
-        self.bytes += leading_fill(&piece[self.bytes..]);
+        self.past_quiet(piece);
         self.groups += 1;
         self.agreements += agree;
+    }
+
+    // FILL mostly, and stray bytes now and then.
+    #[inline(always)]
+    fn past_quiet(&mut self, piece: &[u8]) {
+        self.bytes += leading_fill(&piece[self.bytes..]);
+        if piece.get(self.bytes).is_some_and(|&b| b != SYNC) {
+            self.past_stray(piece);
+        }
+    }
+
+    #[inline(never)]
+    fn past_stray(&mut self, piece: &[u8]) {
+        let rest = &piece[self.bytes..];
+        let n = rest.iter().position(|&b| b == SYNC).unwrap_or(rest.len());
+        self.stray += rest[..n].iter().filter(|&&b| b != FILL).count();
+        self.bytes += n;
     }
 
     fn count(&self, t: &mut Tally, piece: &[u8]) -> usize {
         let groups = self.groups as u64;
         t.bytes += self.bytes as u64;
-        t.fill += self.bytes as u64 - GROUP as u64 * groups;
+        t.fill += (self.bytes - self.stray) as u64 - GROUP as u64 * groups;
+        t.stray += self.stray as u64;
         t.voted += groups;
         if groups != 0 {
             let [first_two, outer_two, last_two] = [0, 16, 32].map(|at| self.agreements >> at & 0xFFFF);

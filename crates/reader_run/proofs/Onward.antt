@@ -317,8 +317,7 @@ module _ {l : Layers} {frame p : List ℕ} {i : ℕ} (b : Begun p i (stateWith l
         → Reaches p i t j (stateWith (layersOf g (l .framing) (l .runs)) frame)
     quiet-onward q e = rw e (plain-onward (λ vote same a. quiet-plain q t closed) refl refl b)
 
-    -- and then SYNC and two copies
-    pub opened-onward : {j k x y : ℕ} {g : Groups} → Quiet p i j k → Byte p j SYNC → Byte p (j + 1) x → Byte p (j + 2) y
-        → g ≡ withQuiet (l .groups) (j - i) k → Reaches p i t (j + 3) (stateWith (layersOf (opened g x y) (l .framing) (l .runs)) frame)
-    opened-onward {j} {k} q sync x y e =
-        rw e (plain-onward (λ vote same a. plain-join (quiet-plain q t closed) (group-opens (afterQuiet t (j - i) k) closed sync x y)) refl refl b)
+    -- SYNC and two copies
+    pub opened-onward : {x y : ℕ} → Byte p i SYNC → Byte p (i + 1) x → Byte p (i + 2) y
+        → Reaches p i t (i + 3) (stateWith (layersOf (opened (l .groups) x y) (l .framing) (l .runs)) frame)
+    opened-onward sync x y = plain-onward (λ vote same a. group-opens t closed sync x y) refl refl b

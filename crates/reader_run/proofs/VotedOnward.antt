@@ -6,13 +6,12 @@ use Prim.Native.Nat.{ℕ, _+_, _*_, _-_, _≤_, _<_, _^_}
 use native.Mathlib.Nat.{add-zero}
 use native.Mathlib.Omega.{arith}
 use lib.ListN.{length}
-use lib.Seq.{sets}
 use Rattle.labelling.specs.declared.Groups.{Groups}
 use Rattle.labelling.specs.declared.Weak.{Weak}
 use Rattle.nominal.specs.Effect.{withPlaced, withHunted}
 use Rattle.voted.specs.declared.hunting.Passed.{Passed}
 use Rattle.voted.specs.declared.placing.Filled.{Filled}
-use Rattle.voted.specs.Copies.{Copies, words}
+use Rattle.voted.specs.Copies.{Copies}
 use Rattle.voted.specs.Stretches.{Placed, Hunted}
 use Rattle.voted.specs.Effect.{held, withVoted}
 use Rattle.voted.proofs.Agreeing.{weak-few}
@@ -25,12 +24,12 @@ use Rattle.reader_run.proofs.Onward.{layersOf, plain-onward}
 
 -- ---- counts added at once
 
--- n bytes and w groups more, with these weak counts and first copies
-abbrev counted : Groups → ℕ → ℕ → Weak → ℕ → ℕ → Groups
-counted g n w weak f s = record {
+-- n bytes more, k stray ones and w groups among them, with these weak counts and first copies
+abbrev counted : Groups → ℕ → ℕ → ℕ → Weak → ℕ → ℕ → Groups
+counted g n k w weak f s = record {
   bytes = g .bytes + n;
-  fill = g .fill + (n - 4 * w);
-  stray = g .stray;
+  fill = g .fill + (n - 4 * w - k);
+  stray = g .stray + k;
   voted = g .voted + w;
   split = g .split;
   weak = weak;
@@ -39,15 +38,15 @@ counted g n w weak f s = record {
   second = s;
 }
 
-module _ (g : Groups) (n : ℕ) (gs : List Copies) (w : ℕ) (weak : Weak) (x y : ℕ) (h : VotedGroups gs w weak x y) where
-  pub no-groups : w ≡ 0 → counted g n w (g .weak) (g .first) (g .second) ≡ withVoted g n gs
+module _ (g : Groups) (n k : ℕ) (gs : List Copies) (w : ℕ) (weak : Weak) (x y : ℕ) (h : VotedGroups gs w weak x y) where
+  pub no-groups : w ≡ 0 → counted g n k w (g .weak) (g .first) (g .second) ≡ withVoted g n k gs
   no-groups z = rw (h .count-is) (go gs (sym (h .count-is) ∙ z))
     where
-      go : (hs : List Copies) → length hs ≡ 0 → counted g n (length hs) (g .weak) (g .first) (g .second) ≡ withVoted g n hs
+      go : (hs : List Copies) → length hs ≡ 0 → counted g n k (length hs) (g .weak) (g .first) (g .second) ≡ withVoted g n k hs
       go [] e = rw (add-zero (g .weak .first), add-zero (g .weak .second), add-zero (g .weak .third))
       go (x ∷ hs) e = absurd (omega arith)
 
-  pub some-groups : (w ≡ 0 → ⊥) → counted g n w (bothWeak (g .weak) weak) x y ≡ withVoted g n gs
+  pub some-groups : (w ≡ 0 → ⊥) → counted g n k w (bothWeak (g .weak) weak) x y ≡ withVoted g n k gs
   some-groups z =
       let some : 0 < length gs = omega (arith, z, h .count-is) in
       rw (h .count-is, h .weak-is, h .first-is (held g) some, h .second-is (held g) some)
@@ -57,13 +56,6 @@ module _ (g : Groups) (n : ℕ) (gs : List Copies) (w : ℕ) (weak : Weak) (x y 
 module _ {p : List ℕ} {i q : ℕ} {f : List ℕ} {r : Filled} {f′ : List ℕ} (s : Placed p i q f r f′) where
   pub placed-groups : {w : ℕ} → w ≡ r .placed - q → VotedGroups (s .groups) w (r .weak) (r .first) (r .second)
   placed-groups e = record { count-is = omega (arith, s .place-is); weak-is = s .weak-is; first-is = s .first-is; second-is = s .second-is }
-
-  pub placed-same : r .placed ≡ q → f′ ≡ f
-  placed-same e = s .frame-is ∙ go (s .groups) (omega (arith, s .place-is))
-    where
-      go : (gs : List Copies) → length gs ≡ 0 → sets f q (words gs) ≡ f
-      go [] z = refl
-      go (g ∷ gs) z = absurd (omega arith)
 
   pub placed-weak : length (s .groups) ≤ 2 ^ 40 → WeakRoom (r .weak)
   placed-weak h =
@@ -79,12 +71,12 @@ module _ {p : List ℕ} {i : ℕ} {r : Passed} (s : Hunted p i r) where
       let few = weak-few (s .stretch) in
       rw (s .weak-is) record { weak1-max = omega (arith, few .0); weak2-max = omega (arith, few .1); weak3-max = omega (arith, few .2) }
 
-  pub hunted-far : i + 4 * r .count ≤ r .at
+  pub hunted-far : i + 4 * r .count + r .stray ≤ r .at
   hunted-far = omega (arith, decided-far (s .stretch), s .count-is)
 
 module _ {l : Layers} {frame p : List ℕ} {i : ℕ} (b : Begun p i (stateWith l frame)) (closed : l .groups .«open» ≡ 0) where
   pub voted-onward : {r : Filled} {frame′ : List ℕ} (s : Placed p i (l .framing .placed) frame r frame′) {g : Groups}
-      → l .framing .hunting ≡ false → l .framing .placed ≤ 127 → g ≡ withVoted (l .groups) (r .at - i) (s .groups)
+      → l .framing .hunting ≡ false → l .framing .placed ≤ 127 → g ≡ withVoted (l .groups) (r .at - i) (r .stray) (s .groups)
       → Reaches p i (stateWith l frame) (r .at) (stateWith (layersOf g (withPlaced (l .framing) (length (s .groups))) (l .runs)) frame′)
   voted-onward s h few e =
       rw (e, s .frame-is)
@@ -94,7 +86,7 @@ module _ {l : Layers} {frame p : List ℕ} {i : ℕ} (b : Begun p i (stateWith l
       refl refl b)
 
   pub hunted-onward : {r : Passed} (s : Hunted p i r) {g : Groups} → l .framing .hunting ≡ true → l .framing .matched ≡ 0
-      → g ≡ withVoted (l .groups) (r .at - i) (s .groups)
+      → g ≡ withVoted (l .groups) (r .at - i) (r .stray) (s .groups)
       → Reaches p i (stateWith l frame) (r .at) (stateWith (layersOf g (withHunted (l .framing) (r .count)) (l .runs)) frame)
   hunted-onward s h m e =
       rw (e, s .count-is)

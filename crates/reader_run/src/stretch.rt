@@ -3,7 +3,7 @@
 ghost use mathlib.Core.Path.{_≡_};
 ghost use mathlib.Core.Bool.{true, false};
 ghost use mathlib.Core.List.{List};
-ghost use Prim.Native.Nat.{ℕ, _*_, _-_, _≤_, _<_, _^_};
+ghost use Prim.Native.Nat.{ℕ, _+_, _*_, _-_, _≤_, _<_, _^_};
 ghost use lib.ListN.{getD};
 ghost use Rattle.nominal.specs.Effect.{withWords, withQuiet};
 ghost use Rattle.order.specs.Room.{GroupsRoom, FramingRoom};
@@ -11,6 +11,7 @@ ghost use Rattle.plain_steps.specs.Shapes.{stateWith};
 ghost use Rattle.reader_run.specs.Onward.{Fits, Begun, Reaches, ReachesAnyFrame, Words, VotedGroups, WeakRoom, bothWeak, opened as openedWith};
 ghost use Rattle.voted.specs.Copies.{Copies};
 ghost use Rattle.voted.specs.Effect.{withVoted};
+use base::format::SYNC;
 use labelling::Groups;
 use labelling::Weak;
 use plain_steps::Layers;
@@ -52,14 +53,15 @@ fn more_weak(w: Weak, more: Weak) -> Weak
     }
 }
 
-// n bytes more: FILL, and w voted groups with these weak copies; x and y are the first copies of the last of them.
-fn after_voted(g: Groups, n: u64, w: u64, weak: Weak, x: u8, y: u8) -> Groups
-    requires { ⌜ GroupsRoom g × (n ≤ 2 ^ 40) × (4 * w ≤ n) × WeakRoom weak ⌝ }
-    ensures { λ r. ⌜ ((gs : List Copies) → VotedGroups gs w weak x y → r ≡ withVoted g n gs) ⌝ }
+// n bytes more: k stray ones, FILL, and w voted groups with these weak copies; x and y are the first copies of the last of them.
+fn after_voted(g: Groups, n: u64, k: u64, w: u64, weak: Weak, x: u8, y: u8) -> Groups
+    requires { ⌜ GroupsRoom g × (n ≤ 2 ^ 40) × (4 * w + k ≤ n) × WeakRoom weak ⌝ }
+    ensures { λ r. ⌜ ((gs : List Copies) → VotedGroups gs w weak x y → r ≡ withVoted g n k gs) ⌝ }
 {
     let mut next = g;
     next.bytes += n;
-    next.fill += n - 4 * w;
+    next.fill += n - 4 * w - k;
+    next.stray += k;
     next.voted += w;
     if w == 0 {
         return next;
@@ -138,13 +140,11 @@ fn voted_run(l: Layers, piece: &[u8], at: usize, frame: &mut [u8; 128]) -> Reach
 {
     let start = l.framing.placed as usize;
     let r = voted::place(piece, at, start, frame);
-    if r.placed == start {
-        return Reached { layers: l, at: at };
-    }
     let mut next = l;
     next.groups = after_voted(
         l.groups,
         (r.at - at) as u64,
+        r.stray,
         (r.placed - start) as u64,
         r.weak,
         r.first,
@@ -155,30 +155,6 @@ fn voted_run(l: Layers, piece: &[u8], at: usize, frame: &mut [u8; 128]) -> Reach
         layers: next,
         at: r.at,
     }
-}
-
-// What can be placed at once: groups of three equal copies, and from the first bad copy on voted ones.
-fn placed_run(l: Layers, piece: &[u8], at: usize, frame: &mut [u8; 128]) -> Reached
-    requires { ⌜ Begun (now piece) at (stateWith l (now frame)) ⌝ }
-    requires { ⌜ (l .groups .«open» ≡ 0) × (l .framing .hunting ≡ false) ⌝ }
-    ensures { λ r. ⌜ Reaches (now (piece .entry)) at (stateWith l (now (frame .entry))) (r .at) (stateWith (r .layers) (now (frame .exit))) ⌝ }
-    ensures { λ r. ⌜ r .layers .groups .«open» ≡ 0 ⌝ }
-{
-    let r = place_run(l, piece, at, frame);
-    let next = r.layers;
-    if next.framing.placed == LAST_PLACE {
-        return Reached {
-            layers: next,
-            at: r.at,
-        };
-    }
-    if !voted::group_stands(piece, r.at) {
-        return Reached {
-            layers: next,
-            at: r.at,
-        };
-    }
-    voted_run(next, piece, r.at, frame)
 }
 
 // A nominal stretch while the sync is hunted. Where some of it is matched already, the next word is left to the plain step.
@@ -214,13 +190,11 @@ fn voted_hunt(l: Layers, piece: &[u8], at: usize) -> Reached
         return Reached { layers: l, at: at };
     }
     let r = voted::pass(piece, at);
-    if r.count == 0 {
-        return Reached { layers: l, at: at };
-    }
     let mut next = l;
     next.groups = after_voted(
         l.groups,
         (r.at - at) as u64,
+        r.stray,
         r.count,
         r.weak,
         r.first,
@@ -235,7 +209,7 @@ fn voted_hunt(l: Layers, piece: &[u8], at: usize) -> Reached
     }
 }
 
-// What is nominal or voted from `at` on. It may be nothing.
+// What is nominal from `at` on. It may be nothing.
 fn nominal_run(l: Layers, piece: &[u8], at: usize, frame: &mut [u8; 128]) -> Reached
     requires { ⌜ Begun (now piece) at (stateWith l (now frame)) ⌝ }
     requires { ⌜ l .groups .«open» ≡ 0 ⌝ }
@@ -243,39 +217,68 @@ fn nominal_run(l: Layers, piece: &[u8], at: usize, frame: &mut [u8; 128]) -> Rea
     ensures { λ r. ⌜ r .layers .groups .«open» ≡ 0 ⌝ }
 {
     if l.framing.hunting {
-        let r = hunt_run(l, piece, at);
-        let next = r.layers;
-        return voted_hunt(next, piece, r.at);
+        return hunt_run(l, piece, at);
     }
-    placed_run(l, piece, at, frame)
+    place_run(l, piece, at, frame)
 }
 
-// What stands before the next SYNC; and where a whole group follows, that SYNC and two copies.
+// What stands before the next SYNC.
+fn quiet_run(l: Layers, piece: &[u8], at: usize) -> Reached
+    requires { ⌜ GroupsRoom (l .groups) × Fits (l .groups) (now piece) at ⌝ }
+    requires { ⌜ l .groups .«open» ≡ 0 ⌝ }
+    ensures { λ r. ⌜ ReachesAnyFrame (now (piece .entry)) at l (r .at) (r .layers) ⌝ }
+    ensures { λ r. ⌜ r .layers .groups .«open» ≡ 0 ⌝ }
+{
+    let skipped = quiet::skip(piece, at);
+    let mut next = l;
+    next.groups = after_quiet(l.groups, (skipped.at - at) as u64, skipped.stray);
+    Reached {
+        layers: next,
+        at: skipped.at,
+    }
+}
+
+// From a group with a bad copy, or one after a stray byte, all that is voted, whatever stands between.
+fn any_voted(l: Layers, piece: &[u8], at: usize, frame: &mut [u8; 128]) -> Reached
+    requires { ⌜ Begun (now piece) at (stateWith l (now frame)) ⌝ }
+    requires { ⌜ l .groups .«open» ≡ 0 ⌝ }
+    ensures { λ r. ⌜ Reaches (now (piece .entry)) at (stateWith l (now (frame .entry))) (r .at) (stateWith (r .layers) (now (frame .exit))) ⌝ }
+    ensures { λ r. ⌜ r .layers .groups .«open» ≡ 0 ⌝ }
+{
+    if !voted::group_stands(piece, at) {
+        return Reached { layers: l, at: at };
+    }
+    if l.framing.hunting {
+        return voted_hunt(l, piece, at);
+    }
+    if l.framing.placed == LAST_PLACE {
+        return Reached { layers: l, at: at };
+    }
+    voted_run(l, piece, at, frame)
+}
+
+// Where a whole group stands, its SYNC and two copies.
 fn open_group(l: Layers, piece: &[u8], at: usize) -> Reached
     requires { ⌜ GroupsRoom (l .groups) × Fits (l .groups) (now piece) at ⌝ }
     requires { ⌜ l .groups .«open» ≡ 0 ⌝ }
     ensures { λ r. ⌜ ReachesAnyFrame (now (piece .entry)) at l (r .at) (r .layers) ⌝ }
 {
-    let skipped = quiet::skip(piece, at);
-    let j = skipped.at;
-    let mut next = l;
-    let g = after_quiet(l.groups, (j - at) as u64, skipped.stray);
-    if piece.len() - j < 4 {
-        next.groups = g;
-        return Reached {
-            layers: next,
-            at: j,
-        };
+    if piece.len() - at < 4 {
+        return Reached { layers: l, at: at };
     }
-    next.groups = opened(g, piece[j + 1], piece[j + 2]);
+    if piece[at] != SYNC {
+        return Reached { layers: l, at: at };
+    }
+    let mut next = l;
+    next.groups = opened(l.groups, piece[at + 1], piece[at + 2]);
     Reached {
         layers: next,
-        at: j + 3,
+        at: at + 3,
     }
 }
 
-// As far as nothing can close but FILL and nominal groups before the last place: up to the third copy of any other group, a group that is
-// open already, or the last bytes of the piece.
+// As far as nothing can close but voted groups before the last place: up to the third copy of any other group, a group that is open already, or
+// the last bytes of the piece.
 pub(crate) fn reach(l: Layers, piece: &[u8], at: usize, frame: &mut [u8; 128]) -> Reached
     requires { ⌜ Begun (now piece) at (stateWith l (now frame)) ⌝ }
     ensures { λ r. ⌜ Reaches (now (piece .entry)) at (stateWith l (now (frame .entry))) (r .at) (stateWith (r .layers) (now (frame .exit))) ⌝ }
@@ -283,7 +286,11 @@ pub(crate) fn reach(l: Layers, piece: &[u8], at: usize, frame: &mut [u8; 128]) -
     if l.groups.open != 0 {
         return Reached { layers: l, at: at };
     }
-    let r = nominal_run(l, piece, at, frame);
-    let next = r.layers;
-    open_group(next, piece, r.at)
+    let nominal = nominal_run(l, piece, at, frame);
+    let first = nominal.layers;
+    let before = quiet_run(first, piece, nominal.at);
+    let second = before.layers;
+    let voted = any_voted(second, piece, before.at, frame);
+    let third = voted.layers;
+    open_group(third, piece, voted.at)
 }

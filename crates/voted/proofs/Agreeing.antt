@@ -3,7 +3,9 @@ use mathlib.Core.Path.{_≡_, refl, sym, _∙_}
 use mathlib.Core.Bool.{Bool, true, false, cond, _&&_, _||_, true≢false}
 use mathlib.Core.List.{List}
 use Prim.Native.Nat.{ℕ, _+_, _*_, _-_, _/_, _%_, _≤_, _<_}
+use native.Mathlib.Nat.{zero-mul, mul-zero, mul-le-mul}
 use native.Mathlib.Omega.{arith}
+use lib.Bits.{bitXor, xor-self, xor-lt}
 use lib.Dec.{eqb}
 use lib.ListN.{length}
 use mir.Val.{boolByte}
@@ -14,8 +16,8 @@ use Rattle.labelling.specs.declared.Word.{Word}
 use Rattle.labelling.specs.declared.Word.the-variants.{Voted, Erased}
 use Rattle.labelling.specs.Words.{byteVote, weakCopy}
 use Rattle.labelling.specs.MajorFrames.{value}
-use Rattle.voted.specs.Copies.{Copies, IsVoted, named, weakIn, sideBySide, agreement, agreements, Summed}
-use Rattle.voted.specs.Stretches.{Decided, ends, fill, group}
+use Rattle.voted.specs.Copies.{Copies, copies, IsVoted, wordOf, named, weakIn, sideBySide, agreement, agreements, Summed}
+use Rattle.voted.specs.Stretches.{Decided, ends, fill, stray, group}
 
 -- ---- one group
 
@@ -82,6 +84,39 @@ told : (g : Copies) → IsVoted g → Parts (eqb (g .first) (g .second)) (eqb (g
 unfolding byteVote
 told g v = parts (g .first) (g .second) (g .third) _ _ _ refl refl refl v
 
+-- what each two copies differ in, multiplied
+module _ (a b c : ℕ) where
+  pub apart-none : IsVoted (copies a b c) → bitXor a b * bitXor a c * bitXor b c ≡ 0
+  apart-none v = go (eqb a b) (eqb a c) (eqb b c) refl refl refl
+    where
+      go : (x y z : Bool) → eqb a b ≡ x → eqb a c ≡ y → eqb b c ≡ z → bitXor a b * bitXor a c * bitXor b c ≡ 0
+      go true y z e f g =
+          let none : bitXor a b ≡ 0 = rw (eqb-true a b e) (xor-self b) in
+          rw (none, zero-mul (bitXor a c), zero-mul (bitXor b c))
+      go false true z e f g =
+          let none : bitXor a c ≡ 0 = rw (eqb-true a c f) (xor-self c) in
+          rw (none, mul-zero (bitXor a b), zero-mul (bitXor b c))
+      go false false true e f g =
+          let none : bitXor b c ≡ 0 = rw (eqb-true b c g) (xor-self c) in
+          rw (none, mul-zero (bitXor a b * bitXor a c))
+      go false false false e f g = absurd (split-of (copies a b c) (rw (e, f, g)) v)
+
+  pub apart-few : a < 256 → b < 256 → c < 256 → (bitXor a b * bitXor a c ≤ 255 * 255) × (bitXor a b * bitXor a c * bitXor b c ≤ 255 * 255 * 255)
+  apart-few ha hb hc =
+      let x : bitXor a b ≤ 255 = omega (arith, xor-lt 8 a b ha hb) in
+      let y : bitXor a c ≤ 255 = omega (arith, xor-lt 8 a c ha hc) in
+      let z : bitXor b c ≤ 255 = omega (arith, xor-lt 8 b c hb hc) in
+      (mul-le-mul x y, mul-le-mul (mul-le-mul x y) z)
+
+-- three equal copies
+module _ (a b c : ℕ) (second : a ≡ b) (third : a ≡ c) where
+  pub alike-agreement : 0x100010001 ≡ agreement (copies a b c)
+  alike-agreement = rw (eq-eqb a b second, eq-eqb a c third, eq-eqb b c (sym second ∙ third))
+
+  pub alike-word : a ≡ wordOf (copies a b c)
+  unfolding byteVote
+  alike-word = rw (eq-eqb a b second)
+
 -- ---- many groups
 
 -- how many have three equal copies
@@ -92,10 +127,11 @@ record Sums (gs : List Copies) : Type 0 where
   sums-are : agreements gs ≡ sideBySide (named 3 gs + alike gs) (named 2 gs + alike gs) (named 1 gs + alike gs)
   count-is : length gs ≡ named 1 gs + named 2 gs + named 3 gs + alike gs
 
-sums-of : {p : List ℕ} {i j : ℕ} {gs : List Copies} → Decided p i j gs → Sums gs
+sums-of : {p : List ℕ} {i j k : ℕ} {gs : List Copies} → Decided p i j k gs → Sums gs
 unfolding weakCopy
 sums-of ends = record { sums-are = refl; count-is = refl }
 sums-of (fill b n) = sums-of n
+sums-of (stray x b s f n) = sums-of n
 sums-of (group g s v n) =
     let rest = sums-of n in
     let first = told g v in
@@ -104,7 +140,7 @@ sums-of (group g s v n) =
       count-is = omega (arith, rest .count-is, first .whole);
     }
 
-module _ {p : List ℕ} {i j : ℕ} {gs : List Copies} (n : Decided p i j gs) where
+module _ {p : List ℕ} {i j k : ℕ} {gs : List Copies} (n : Decided p i j k gs) where
   pub summed-of : length gs < 0x10000 → Summed (agreements gs) (length gs) (weakIn gs) (alike gs)
   summed-of h = record { sums-are = sums-of n .sums-are; count-is = sums-of n .count-is; few = h }
 

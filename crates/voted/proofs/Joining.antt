@@ -2,12 +2,14 @@
 use mathlib.Core.Path.{_≡_, refl, sym, _∙_}
 use mathlib.Core.List.{List, [], _∷_, _++_, append-nil}
 use Prim.Native.Nat.{ℕ, suc, _+_, _*_, _-_, _≤_, _<_}
-use native.Mathlib.Nat.{add-zero, add-suc, suc-add}
+use native.Mathlib.Nat.{zero-add, add-zero, add-suc, suc-add}
 use native.Mathlib.Omega.{arith}
 use lib.ListN.{length, length-append, getD, set}
 use lib.Seq.{sets}
 use Rattle.base.specs.Format.{SYNC, FILL, syncWord}
-use Rattle.quiet.specs.Quiet.{Byte}
+use Rattle.quiet.specs.Quiet.{Byte, Quiet, ToSync}
+use Rattle.quiet.specs.Quiet as quiet
+use Rattle.quiet.proofs.Joining.{quiet-far}
 use Rattle.labelling.specs.declared.Weak.{Weak}
 use Rattle.nominal.specs.Stretches.{Nominal, lastPlace, NoneBegins, none, other}
 use Rattle.nominal.specs.Stretches as nominal
@@ -15,35 +17,54 @@ use Rattle.nominal.proofs.Joining.{nominal-join, four-fill, one-fill}
 use Rattle.voted.specs.declared.hunting.Hunt.{Hunt}
 use Rattle.voted.specs.declared.placing.Run.{Run}
 use Rattle.voted.specs.Copies.{Copies, copies, copiesAt, IsVoted, wordOf, words, weakIn, lastOr, agreement, agreements, Summed}
-use Rattle.voted.specs.Stretches.{Group, Spaced, Decided, ends, fill, group, LastAt, Stops, Kept, Longest, noGroup, Placed}
+use Rattle.voted.specs.Stretches.{Group, Spaced, Decided, ends, fill, stray, group, LastAt, Stops, Kept, Longest, noGroup, Placed}
 use Rattle.voted.specs.Stretches.{mostGroups, LeftTo, Sought, nonePassed, Hunted}
 use Rattle.voted.proofs.Agreeing.{agreement-few, split-of, alike, summed-of}
 
 -- ---- voted stretches
 
 module _ {p : List ℕ} where
-  pub decided-join : {i j k : ℕ} {gs hs : List Copies} → Decided p i j gs → Decided p j k hs → Decided p i k (gs ++ hs)
-  decided-join ends m = m
-  decided-join (fill b n) m = fill b (decided-join n m)
-  decided-join (group g s v n) m = group g s v (decided-join n m)
+  pub decided-join : {i j k n m : ℕ} {gs hs : List Copies} → Decided p i j n gs → Decided p j k m hs → Decided p i k (n + m) (gs ++ hs)
+  decided-join {m = m} ends d = rw (zero-add m) d
+  decided-join (fill b a) d = fill b (decided-join a d)
+  decided-join {m = m} (stray {n = n} x b s f a) d =
+      let e : n + 1 + m ≡ n + m + 1 = omega arith in
+      rw e (stray x b s f (decided-join a d))
+  decided-join (group g s v a) d = group g s v (decided-join a d)
 
-  -- four bytes for each group, at the least; and not past the end
-  pub decided-far : {i j : ℕ} {gs : List Copies} → Decided p i j gs → i + 4 * length gs ≤ j
+  -- four bytes for each group and one for each stray one, at the least; and not past the end
+  pub decided-far : {i j n : ℕ} {gs : List Copies} → Decided p i j n gs → i + 4 * length gs + n ≤ j
   decided-far ends = omega arith
-  decided-far (fill b n) = omega (arith, decided-far n)
-  decided-far (group g s v n) = omega (arith, decided-far n)
+  decided-far (fill b a) = omega (arith, decided-far a)
+  decided-far (stray x b s f a) = omega (arith, decided-far a)
+  decided-far (group g s v a) = omega (arith, decided-far a)
 
-  pub decided-inside : {i j : ℕ} {gs : List Copies} → Decided p i j gs → i ≤ length p → j ≤ length p
+  pub decided-inside : {i j n : ℕ} {gs : List Copies} → Decided p i j n gs → i ≤ length p → j ≤ length p
   decided-inside ends h = h
-  decided-inside (fill b n) h = decided-inside n (omega (arith, b .inside))
-  decided-inside (group g s v n) h = decided-inside n (omega (arith, s .third .inside))
+  decided-inside (fill b a) h = decided-inside a (omega (arith, b .inside))
+  decided-inside (stray x b s f a) h = decided-inside a (omega (arith, b .inside))
+  decided-inside (group g s v a) h = decided-inside a (omega (arith, s .third .inside))
 
-  pub past-fill : {i j : ℕ} → Nominal p i j [] → Decided p i j []
+  pub past-fill : {i j : ℕ} → Nominal p i j [] → Decided p i j 0 []
   past-fill nominal.ends = ends
   past-fill (nominal.fill b n) = fill b (past-fill n)
 
+  pub past-quiet : {i j n : ℕ} → Quiet p i j n → Decided p i j n []
+  past-quiet quiet.ends = ends
+  past-quiet (quiet.fill b a) = fill b (past-quiet a)
+  past-quiet (quiet.stray x b s f a) = stray x b s f (past-quiet a)
+
+  -- past a byte that is no SYNC
+  quiet-moves : {i j n : ℕ} → Quiet p i j n → (j < length p → Byte p j SYNC) → i < length p → (getD p i 0 ≡ SYNC → ⊥) → i < j
+  quiet-moves quiet.ends stops h unlike = absurd (unlike (stops h .is))
+  quiet-moves (quiet.fill b a) stops h unlike = omega (arith, quiet-far a)
+  quiet-moves (quiet.stray x b y f a) stops h unlike = omega (arith, quiet-far a)
+
+  pub past-moves : {i j n : ℕ} → ToSync p i j n → i < length p → (getD p i 0 ≡ SYNC → ⊥) → i < j
+  past-moves s h unlike = quiet-moves (s .quiet) (s .stops) h unlike
+
   -- the FILL of a cell
-  pub cell-fill : {i : ℕ} → Spaced p i → Decided p (i + 4) (i + 9) []
+  pub cell-fill : {i : ℕ} → Spaced p i → Decided p (i + 4) (i + 9) 0 []
   cell-fill {i} s =
       past-fill (nominal-join (four-fill {j = i + 8} (omega arith) (s .four)) (one-fill {j = i + 9} (omega arith) (s .fifth)))
 
@@ -74,11 +95,11 @@ last-last : (gs : List Copies) (g d : Copies) → lastOr (gs ++ g ∷ []) d ≡ 
 last-last [] g d = refl
 last-last (x ∷ gs) g d = last-last gs g x
 
-abbrev pub run : ℕ → ℕ → ℕ → ℕ → Run
-run at placed last sums = record { at = at; placed = placed; last = last; sums = sums }
+abbrev pub run : ℕ → ℕ → ℕ → ℕ → ℕ → Run
+run at placed last sums n = record { at = at; placed = placed; last = last; sums = sums; stray = n }
 
 module _ {p : List ℕ} where
-  pub kept-none : (i q : ℕ) (f : List ℕ) → Kept p i q f (run i q i 0) f
+  pub kept-none : (i q : ℕ) (f : List ℕ) → Kept p i q f (run i q i 0 0) f
   kept-none i q f = record {
     groups = [];
     stretch = ends;
@@ -88,22 +109,22 @@ module _ {p : List ℕ} where
     last-at = λ d h. absurd (omega arith);
   }
 
-  module _ {i q k l s : ℕ} {j : ℕ} {f f′ : List ℕ} (b : Kept p i q f (run j k l s) f′) where
-    pub kept-fill : {j′ : ℕ} → Decided p j j′ [] → Kept p i q f (run j′ k l s) f′
-    kept-fill n = record {
+  module _ {i q k l s n : ℕ} {j : ℕ} {f f′ : List ℕ} (b : Kept p i q f (run j k l s n) f′) where
+    pub kept-quiet : {j′ m : ℕ} → Decided p j j′ m [] → Kept p i q f (run j′ k l s (n + m)) f′
+    kept-quiet d = record {
       groups = b .groups;
-      stretch = rw (append-nil (b .groups)) at (decided-join (b .stretch) n);
+      stretch = rw (append-nil (b .groups)) at (decided-join (b .stretch) d);
       place-is = b .place-is;
       frame-is = b .frame-is;
       sums-are = b .sums-are;
       last-at = b .last-at;
     }
 
-    pub kept-group : {j′ w a : ℕ} {g : Copies} → Group p j g → IsVoted g → Decided p (j + 4) j′ [] → w ≡ wordOf g → a ≡ agreement g
-        → Kept p i q f (run j′ (k + 1) j (s + a)) (set f′ k w)
-    kept-group {j′} {w} {a} {g} there v n ew ea = record {
+    pub kept-group : {j′ m w a : ℕ} {g : Copies} → Group p j g → IsVoted g → Decided p (j + 4) j′ m [] → w ≡ wordOf g → a ≡ agreement g
+        → Kept p i q f (run j′ (k + 1) j (s + a) (n + m)) (set f′ k w)
+    kept-group {j′} {m} {w} {a} {g} there v d ew ea = record {
       groups = b .groups ++ g ∷ [];
-      stretch = decided-join (b .stretch) (group g there v n);
+      stretch = decided-join (b .stretch) (group g there v d);
       place-is = omega (arith, b .place-is, length-append (b .groups) (g ∷ []));
       frame-is = rw (b .frame-is, b .place-is, ew) (sym (words-last f q (b .groups) g));
       sums-are = omega (arith, b .sums-are, agreements-last (b .groups) g);
@@ -112,26 +133,23 @@ module _ {p : List ℕ} where
 
 -- ---- where a voted stretch stops
 
-module _ {p : List ℕ} {j : ℕ} {Left : Copies → Type 0} (no-fill : Byte p j FILL → ⊥) where
+module _ {p : List ℕ} {j : ℕ} {Left : Copies → Type 0} where
   -- no whole group is left
   pub stops-short : length p < j + 4 → Stops p j Left
-  stops-short h = record { no-fill = no-fill; no-group = λ g s v. absurd (omega (arith, s .third .inside)) }
+  stops-short l h = absurd (omega arith)
 
-  -- no group stands there
-  pub stops-unlike : (getD p j 0 ≡ SYNC → ⊥) → Stops p j Left
-  stops-unlike h = record { no-fill = no-fill; no-group = λ g s v. absurd (h (s .sync .is)) }
+  module _ (sync : getD p j 0 ≡ SYNC) where
+    -- all three copies differ
+    pub stops-split : agreement (copiesAt p j) ≡ 0 → Stops p j Left
+    stops-split e h = (record { inside = omega arith; is = sync }, λ g s v. absurd (split-of (copiesAt p j) e (rw (copies-there s) at v)))
 
-  -- all three copies differ
-  pub stops-split : agreement (copiesAt p j) ≡ 0 → Stops p j Left
-  stops-split e = record { no-fill = no-fill; no-group = λ g s v. absurd (split-of (copiesAt p j) e (rw (copies-there s) at v)) }
-
-  -- a group may stand there, and is left
-  pub stops-left : ((g : Copies) → Left g) → Stops p j Left
-  stops-left left = record { no-fill = no-fill; no-group = λ g s v. left g }
+    -- a group stands there, and is left
+    pub stops-left : ((g : Copies) → Left g) → Stops p j Left
+    stops-left left h = (record { inside = omega arith; is = sync }, λ g s v. left g)
 
 -- ---- the whole stretch
 
-pub placed-none : {p : List ℕ} {i j q : ℕ} {f : List ℕ} → Decided p i j [] → Stops p j (λ g. lastPlace ≤ q) → Placed p i q f (noGroup j q) f
+pub placed-none : {p : List ℕ} {i j q n : ℕ} {f : List ℕ} → Decided p i j n [] → Stops p j (λ g. lastPlace ≤ q) → Placed p i q f (noGroup j q n) f
 placed-none n s = record {
   groups = [];
   stretch = n;
@@ -146,10 +164,11 @@ placed-none n s = record {
 
 module _ {p : List ℕ} {i q : ℕ} {f : List ℕ} {r : Run} {f′ : List ℕ} (l : Longest p i q f r f′) where
   -- no group
-  pub placed-empty : r .placed ≡ q → Placed p i q f (noGroup (r .at) q) f′
+  pub placed-empty : r .placed ≡ q → Placed p i q f (noGroup (r .at) q (r .stray)) f′
   placed-empty e = go (l .kept .groups) (omega (arith, l .kept .place-is)) (l .kept .stretch) (l .kept .frame-is)
     where
-      go : (gs : List Copies) → length gs ≡ 0 → Decided p i (r .at) gs → f′ ≡ sets f q (words gs) → Placed p i q f (noGroup (r .at) q) f′
+      go : (gs : List Copies) → length gs ≡ 0 → Decided p i (r .at) (r .stray) gs → f′ ≡ sets f q (words gs)
+          → Placed p i q f (noGroup (r .at) q (r .stray)) f′
       go [] z n ef = rw ef (placed-none n (rw e at (l .stops)))
       go (g ∷ gs) z n ef = absurd (omega arith)
 
@@ -171,7 +190,7 @@ module _ {p : List ℕ} {i q : ℕ} {f : List ℕ} {r : Run} {f′ : List ℕ} (
 
     pub placed-some : {w : Weak} → w ≡ weakIn (l .kept .groups)
         → Placed p i q f
-        record { at = r .at; placed = r .placed; weak = w; first = getD p (r .last + 1) 0; second = getD p (r .last + 2) 0 }
+        record { at = r .at; placed = r .placed; weak = w; first = getD p (r .last + 1) 0; second = getD p (r .last + 2) 0; stray = r .stray }
         f′
     placed-some e =
         let k = l .kept in
@@ -189,17 +208,18 @@ module _ {p : List ℕ} {i q : ℕ} {f : List ℕ} {r : Run} {f′ : List ℕ} (
 
 -- ---- hunted groups
 
-abbrev pub hunt : ℕ → ℕ → ℕ → ℕ → Hunt
-hunt at count last sums = record { at = at; count = count; last = last; sums = sums }
+abbrev pub hunt : ℕ → ℕ → ℕ → ℕ → ℕ → Hunt
+hunt at count last sums n = record { at = at; count = count; last = last; sums = sums; stray = n }
 
 -- the run so far, which may go on
 pub record Going (p : List ℕ) (i : ℕ) (r : Hunt) : Type 0 where
   pub groups : List Copies
-  pub stretch : Decided p i (r .at) groups
+  pub stretch : Decided p i (r .at) (r .stray) groups
   pub none-begins : NoneBegins (words groups)
   pub count-is : r .count ≡ length groups
   pub most : r .count ≤ mostGroups
   pub few : r .sums ≤ 0x100010001 * r .count
+  pub few-stray : r .stray ≤ r .at
   pub sums-are : r .sums ≡ agreements groups
   pub last-at : LastAt p groups (r .last)
 
@@ -208,33 +228,48 @@ none-last [] g n h = other h none
 none-last (x ∷ gs) g (other z n) h = other z (none-last gs g n h)
 
 module _ {p : List ℕ} where
-  pub going-none : {i j : ℕ} (l : ℕ) → Decided p i j [] → Going p i (hunt j 0 l 0)
-  going-none l n = record {
+  pub going-none : (i : ℕ) → Going p i (hunt i 0 i 0 0)
+  going-none i = record {
     groups = [];
-    stretch = n;
+    stretch = ends;
     none-begins = none;
     count-is = refl;
     most = omega arith;
     few = omega arith;
+    few-stray = omega arith;
     sums-are = refl;
     last-at = λ d h. absurd (omega arith);
   }
 
-  module _ {i j k l s : ℕ} (b : Going p i (hunt j k l s)) where
-    pub going-on : {j′ a : ℕ} {g : Copies} → k < mostGroups → Group p j g → IsVoted g → (wordOf g ≡ syncWord 0 → ⊥) → Decided p (j + 4) j′ []
-        → a ≡ agreement g → Going p i (hunt j′ (k + 1) j (s + a))
-    going-on {j′} {a} {g} few there v h n ea = record {
+  module _ {i j k l s n : ℕ} (b : Going p i (hunt j k l s n)) where
+    pub going-quiet : {j′ m : ℕ} → Decided p j j′ m [] → Going p i (hunt j′ k l s (n + m))
+    going-quiet d = record {
+      groups = b .groups;
+      stretch = rw (append-nil (b .groups)) at (decided-join (b .stretch) d);
+      none-begins = b .none-begins;
+      count-is = b .count-is;
+      most = b .most;
+      few = b .few;
+      few-stray = omega (arith, b .few-stray, decided-far d);
+      sums-are = b .sums-are;
+      last-at = b .last-at;
+    }
+
+    pub going-on : {j′ m a : ℕ} {g : Copies} → k < mostGroups → Group p j g → IsVoted g → (wordOf g ≡ syncWord 0 → ⊥) → Decided p (j + 4) j′ m []
+        → a ≡ agreement g → Going p i (hunt j′ (k + 1) j (s + a) (n + m))
+    going-on {j′} {m} {a} {g} few there v h d ea = record {
       groups = b .groups ++ g ∷ [];
-      stretch = decided-join (b .stretch) (group g there v n);
+      stretch = decided-join (b .stretch) (group g there v d);
       none-begins = none-last (b .groups) g (b .none-begins) h;
       count-is = omega (arith, b .count-is, length-append (b .groups) (g ∷ []));
       most = omega arith;
       few = omega (arith, b .few, agreement-few g);
+      few-stray = omega (arith, b .few-stray, decided-far d);
       sums-are = omega (arith, b .sums-are, agreements-last (b .groups) g);
       last-at = λ d h. rw (last-last (b .groups) g d) there;
     }
 
-    pub sought : Stops p j (LeftTo k) → Sought p i (hunt j k l s)
+    pub sought : Stops p j (LeftTo k) → Sought p i (hunt j k l s n)
     sought stops = record {
       groups = b .groups;
       stretch = b .stretch;
@@ -247,15 +282,15 @@ module _ {p : List ℕ} where
     }
 
   -- the word is FA
-  pub stops-first : {j w v : ℕ} → (Byte p j FILL → ⊥) → v ≡ wordOf (copiesAt p j) → v ≡ syncWord 0 → Stops p j (LeftTo w)
-  stops-first no-fill e f = record { no-fill = no-fill; no-group = λ g s v h. rw (copies-there s) (sym e ∙ f) }
+  pub stops-first : {j w v : ℕ} → getD p j 0 ≡ SYNC → v ≡ wordOf (copiesAt p j) → v ≡ syncWord 0 → Stops p j (LeftTo w)
+  stops-first sync e f h = (record { inside = omega arith; is = sync }, λ g s v few. rw (copies-there s) (sym e ∙ f))
 
 module _ {p : List ℕ} {i : ℕ} {r : Hunt} (s : Sought p i r) where
   -- no group
-  pub hunted-empty : r .count ≡ 0 → Hunted p i (nonePassed (r .at))
+  pub hunted-empty : r .count ≡ 0 → Hunted p i (nonePassed (r .at) (r .stray))
   hunted-empty e = go (s .groups) (omega (arith, s .count-is)) (s .stretch)
     where
-      go : (gs : List Copies) → length gs ≡ 0 → Decided p i (r .at) gs → Hunted p i (nonePassed (r .at))
+      go : (gs : List Copies) → length gs ≡ 0 → Decided p i (r .at) (r .stray) gs → Hunted p i (nonePassed (r .at) (r .stray))
       go [] z n = record {
         groups = [];
         stretch = n;
@@ -277,7 +312,14 @@ module _ {p : List ℕ} {i : ℕ} {r : Hunt} (s : Sought p i r) where
     hunt-inside = s .last-at (copies 0 0 0) (omega (arith, s .count-is, some)) .third .inside
 
     pub hunted-some : {w : Weak} → w ≡ weakIn (s .groups)
-        → Hunted p i record { at = r .at; count = r .count; weak = w; first = getD p (r .last + 1) 0; second = getD p (r .last + 2) 0 }
+        → Hunted p i record {
+          at = r .at;
+          count = r .count;
+          weak = w;
+          first = getD p (r .last + 1) 0;
+          second = getD p (r .last + 2) 0;
+          stray = r .stray;
+        }
     hunted-some e = record {
       groups = s .groups;
       stretch = s .stretch;

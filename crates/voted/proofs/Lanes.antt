@@ -2,7 +2,7 @@
 use mathlib.Core.Path.{_≡_, refl, sym, ap, _∙_}
 use mathlib.Core.List.{List, []}
 use Prim.Native.Nat.{ℕ, zero, suc, _+_, _*_, _-_, _≤_, _<_}
-use native.Mathlib.Nat.{add-suc}
+use native.Mathlib.Nat.{add-zero, add-suc}
 use native.Mathlib.Numerals.{add-one}
 use native.Mathlib.Omega.{arith}
 use borrow.Author.Count.{below-more}
@@ -174,10 +174,10 @@ copied-more f q w n = rw (add-one n)
 
 -- ---- the cells of a block after a run
 
-module _ {p : List ℕ} {i q : ℕ} {f : List ℕ} {j k l s : ℕ} {f′ : List ℕ} (b : Kept p i q f (run j k l s) f′) where
+module _ {p : List ℕ} {i q : ℕ} {f : List ℕ} {j k l s t : ℕ} {f′ : List ℕ} (b : Kept p i q f (run j k l s t) f′) where
   -- the run after n cells more, of which the last stands at l′
   abbrev After : Columns → List ℕ → ℕ → ℕ → Type 0
-  After ls w n l′ = Kept p i q f (run (j + 9 * n) (k + n) l′ (s + total agreement ls n)) (copied f′ k w n)
+  After ls w n l′ = Kept p i q f (run (j + 9 * n) (k + n) l′ (s + total agreement ls n) t) (copied f′ k w n)
 
   module _ {n : ℕ} {ls : Columns} (w : List ℕ) (g : Gathered p j n ls) (voted : (m : ℕ) → m < n → IsVoted (lane ls m))
       (words-are : (m : ℕ) → m < n → getD w m 0 ≡ wordOf (lane ls m)) where
@@ -190,7 +190,7 @@ module _ {p : List ℕ} {i q : ℕ} {f : List ℕ} {j k l s : ℕ} {f′ : List 
         let at : j + 9 * m + 9 ≡ j + 9 * (m + 1) = omega arith in
         let place : k + m + 1 ≡ k + (m + 1) = omega arith in
         let sums : s + total agreement ls m + agreement (lane ls m) ≡ s + total agreement ls (m + 1) = omega (arith, total-more agreement ls m) in
-        rw (at, place, sums, ← copied-more f′ k w m) at next
+        rw (at, place, sums, add-zero t, ← copied-more f′ k w m) at next
 
     cells-kept : (m : ℕ) → m < n → After ls w (m + 1) (j + 9 * m)
     cells-kept zero h =
@@ -203,7 +203,7 @@ module _ {p : List ℕ} {i q : ℕ} {f : List ℕ} {j k l s : ℕ} {f′ : List 
         one-more (suc m) (j + 9 * m) h (rw (← n-is) at (cells-kept m (omega arith)))
 
     pub block-kept : {s′ : ℕ} {f″ : List ℕ} → 0 < n → s′ ≡ s + total agreement ls n → f″ ≡ copied f′ k w n
-        → Kept p i q f (run (j + 9 * n) (k + n) (j + 9 * (n - 1)) s′) f″
+        → Kept p i q f (run (j + 9 * n) (k + n) (j + 9 * (n - 1)) s′ t) f″
     block-kept some es ef =
         let all : n - 1 + 1 ≡ n = omega arith in
         rw (es, ef) (rw all at (cells-kept (n - 1) (omega arith)))

@@ -9,7 +9,7 @@ use Rattle.labelling.specs.Machine.{State}
 use Rattle.nominal.specs.Effect.{withPlaced, withHunted}
 use Rattle.voted.specs.Copies.{Copies, copies, words, named, lastOr}
 
--- ---- the first layer after n bytes: FILL, and the groups gs
+-- ---- the first layer after n bytes: the groups gs, k stray bytes, and FILL
 
 abbrev pub weakened : Weak → List Copies → Weak
 weakened w gs = record { first = w .first + named 1 gs; second = w .second + named 2 gs; third = w .third + named 3 gs }
@@ -18,11 +18,11 @@ weakened w gs = record { first = w .first + named 1 gs; second = w .second + nam
 abbrev pub held : Groups → Copies
 held g = copies (g .first) (g .second) 0
 
-abbrev pub withVoted : Groups → ℕ → List Copies → Groups
-withVoted g n gs = record {
+abbrev pub withVoted : Groups → ℕ → ℕ → List Copies → Groups
+withVoted g n k gs = record {
   bytes = g .bytes + n;
-  fill = g .fill + (n - 4 * length gs);
-  stray = g .stray;
+  fill = g .fill + (n - 4 * length gs - k);
+  stray = g .stray + k;
   voted = g .voted + length gs;
   split = g .split;
   weak = weakened (g .weak) gs;
@@ -33,17 +33,17 @@ withVoted g n gs = record {
 
 -- ---- the state after n bytes: words are placed, or hunted with nothing matched
 
-abbrev pub afterPlaced : State → ℕ → List Copies → State
-afterPlaced t n gs = record {
-  groups = withVoted (t .groups) n gs;
+abbrev pub afterPlaced : State → ℕ → ℕ → List Copies → State
+afterPlaced t n k gs = record {
+  groups = withVoted (t .groups) n k gs;
   framing = withPlaced (t .framing) (length gs);
   runs = t .runs;
   frame = sets (t .frame) (t .framing .placed) (words gs);
 }
 
-abbrev pub afterHunted : State → ℕ → List Copies → State
-afterHunted t n gs = record {
-  groups = withVoted (t .groups) n gs;
+abbrev pub afterHunted : State → ℕ → ℕ → List Copies → State
+afterHunted t n k gs = record {
+  groups = withVoted (t .groups) n k gs;
   framing = withHunted (t .framing) (length gs);
   runs = t .runs;
   frame = t .frame;

@@ -1,8 +1,9 @@
--- Voted stretches of a piece, which are FILL and groups of which at least two copies are equal, taken many bytes at a time. Definitions only.
+-- Voted stretches of a piece, which are groups of which at least two copies are equal and any bytes but SYNC between them, taken many bytes at a
+-- time. Definitions only.
 use mathlib.Core.Path.{_≡_}
 use mathlib.Core.List.{List, [], _∷_}
 use Prim.Native.Nat.{ℕ, _+_, _*_, _≤_, _<_}
-use lib.ListN.{length}
+use lib.ListN.{length, getD}
 use lib.Seq.{sets}
 use Rattle.base.specs.Format.{SYNC, FILL, syncWord}
 use Rattle.quiet.specs.Quiet.{Byte}
@@ -11,7 +12,8 @@ use Rattle.voted.specs.declared.hunting.Hunt.{Hunt}
 use Rattle.voted.specs.declared.hunting.Passed.{Passed}
 use Rattle.voted.specs.declared.placing.Filled.{Filled}
 use Rattle.voted.specs.declared.placing.Run.{Run}
-use Rattle.voted.specs.Copies.{Copies, IsVoted, wordOf, words, weakIn, lastOr, agreements}
+use Rattle.voted.specs.declared.votes.Seen.{Seen}
+use Rattle.voted.specs.Copies.{Copies, copiesAt, agreement, IsVoted, wordOf, words, weakIn, lastOr, agreements}
 
 -- ---- the shapes
 
@@ -28,37 +30,50 @@ pub record Spaced (p : List ℕ) (i : ℕ) : Type 0 where
   pub four : FourFill p (i + 4)
   pub fifth : Byte p (i + 8) FILL
 
+-- the same with three equal copies
+pub record Alike (p : List ℕ) (i : ℕ) : Type 0 where
+  pub spaced : Spaced p i
+  pub second : getD p (i + 1) 0 ≡ getD p (i + 2) 0
+  pub third : getD p (i + 1) 0 ≡ getD p (i + 3) 0
+
 -- ---- voted stretches
 
--- from i to j the piece p holds FILL and groups that are voted; gs are the copies of these
-pub data Decided (p : List ℕ) : ℕ → ℕ → List Copies → Type 0 where
-  ends : {i : ℕ} → Decided p i i []
-  fill : {i j : ℕ} {gs : List Copies} → Byte p i FILL → Decided p (i + 1) j gs → Decided p i j gs
-  group : {i j : ℕ} {gs : List Copies} (g : Copies) → Group p i g → IsVoted g → Decided p (i + 4) j gs → Decided p i j (g ∷ gs)
+-- from i to j the piece p holds groups that are voted, FILL, and n stray bytes; gs are the copies of the groups
+pub data Decided (p : List ℕ) : ℕ → ℕ → ℕ → List Copies → Type 0 where
+  ends : {i : ℕ} → Decided p i i 0 []
+  fill : {i j n : ℕ} {gs : List Copies} → Byte p i FILL → Decided p (i + 1) j n gs → Decided p i j n gs
+  stray : {i j n : ℕ} {gs : List Copies} (b : ℕ) → Byte p i b → (b ≡ SYNC → ⊥) → (b ≡ FILL → ⊥) → Decided p (i + 1) j n gs → Decided p i j (n + 1) gs
+  group : {i j n : ℕ} {gs : List Copies} (g : Copies) → Group p i g → IsVoted g → Decided p (i + 4) j n gs → Decided p i j n (g ∷ gs)
 
 -- the last of the groups stands at k, if there is one
 abbrev pub LastAt : List ℕ → List Copies → ℕ → Type 0
 LastAt p gs k = (d : Copies) → 0 < length gs → Group p k (lastOr gs d)
 
--- at j a voted stretch cannot go on: no FILL stands there, and no whole group that is voted but one that is left to the plain step
-pub record Stops (p : List ℕ) (j : ℕ) (Left : Copies → Type 0) : Type 0 where
-  pub no-fill : Byte p j FILL → ⊥
-  pub no-group : (g : Copies) → Group p j g → IsVoted g → Left g
+-- at j a voted stretch cannot go on: fewer than four bytes are left, or a group stands there that is split or left to the plain step
+abbrev pub Stops : List ℕ → ℕ → (Copies → Type 0) → Type 0
+Stops p j Left = j + 3 < length p → Byte p j SYNC × ((g : Copies) → Group p j g → IsVoted g → Left g)
+
+-- what is told of the three bytes after i, and of what stands between a voted group at i and the next one
+pub record Looked (p : List ℕ) (i : ℕ) (r : Seen) : Type 0 where
+  pub agree-is : r .agree ≡ agreement (copiesAt p i)
+  pub word-is : IsVoted (copiesAt p i) → r .word ≡ wordOf (copiesAt p i)
+  pub between : Decided p (i + 4) (r .at) (r .stray) []
 
 -- ---- while words are placed: in a loop
 
 -- a voted stretch from i, whose words are placed: the frame f, filled as far as place q, has become f′, with what the run r tells
 pub record Kept (p : List ℕ) (i q : ℕ) (f : List ℕ) (r : Run) (f′ : List ℕ) : Type 0 where
   pub groups : List Copies
-  pub stretch : Decided p i (r .at) groups
+  pub stretch : Decided p i (r .at) (r .stray) groups
   pub place-is : r .placed ≡ q + length groups
   pub frame-is : f′ ≡ sets f q (words groups)
   pub sums-are : r .sums ≡ agreements groups
   pub last-at : LastAt p groups (r .last)
 
--- the last place is free, and the sums are those of no more groups than places
+-- the last place is free, the sums are those of no more groups than places, and no more bytes are stray than there are
 pub record RunRoom (r : Run) : Type 0 where
   pub room : r .placed ≤ lastPlace
+  pub few-stray : r .stray ≤ r .at
   pub few : r .sums ≤ 0x100010001 * r .placed
 
 -- a stretch from anywhere that leads to r leads on to r′
@@ -80,14 +95,14 @@ pub record Longest (p : List ℕ) (i q : ℕ) (f : List ℕ) (r : Run) (f′ : L
 -- ---- while words are placed: the whole
 
 -- what is told of a stretch with no group
-abbrev pub noGroup : ℕ → ℕ → Filled
-noGroup at q = record { at = at; placed = q; weak = weakIn []; first = 0; second = 0 }
+abbrev pub noGroup : ℕ → ℕ → ℕ → Filled
+noGroup at q n = record { at = at; placed = q; weak = weakIn []; first = 0; second = 0; stray = n }
 
 -- a voted stretch from i, whose words are placed, with what r tells; no longer stretch from i can be placed: it stops where the last place comes
 -- next, or where a voted stretch cannot go on
 pub record Placed (p : List ℕ) (i q : ℕ) (f : List ℕ) (r : Filled) (f′ : List ℕ) : Type 0 where
   pub groups : List Copies
-  pub stretch : Decided p i (r .at) groups
+  pub stretch : Decided p i (r .at) (r .stray) groups
   pub place-is : r .placed ≡ q + length groups
   pub room : q ≤ lastPlace → r .placed ≤ lastPlace
   pub frame-is : f′ ≡ sets f q (words groups)
@@ -109,7 +124,7 @@ LeftTo w g = w < mostGroups → wordOf g ≡ syncWord 0
 -- in a loop: a voted stretch from i with no word FA, and what the run r tells of it; from there it cannot go on
 pub record Sought (p : List ℕ) (i : ℕ) (r : Hunt) : Type 0 where
   pub groups : List Copies
-  pub stretch : Decided p i (r .at) groups
+  pub stretch : Decided p i (r .at) (r .stray) groups
   pub none-begins : NoneBegins (words groups)
   pub count-is : r .count ≡ length groups
   pub most : r .count ≤ mostGroups
@@ -118,13 +133,13 @@ pub record Sought (p : List ℕ) (i : ℕ) (r : Hunt) : Type 0 where
   pub stops : Stops p (r .at) (LeftTo (r .count))
 
 -- what is told of a stretch with no group
-abbrev pub nonePassed : ℕ → Passed
-nonePassed at = record { at = at; count = 0; weak = weakIn []; first = 0; second = 0 }
+abbrev pub nonePassed : ℕ → ℕ → Passed
+nonePassed at n = record { at = at; count = 0; weak = weakIn []; first = 0; second = 0; stray = n }
 
 -- the whole: a voted stretch from i with no word FA, and what r tells of it; no longer stretch from i can be passed, but for their number
 pub record Hunted (p : List ℕ) (i : ℕ) (r : Passed) : Type 0 where
   pub groups : List Copies
-  pub stretch : Decided p i (r .at) groups
+  pub stretch : Decided p i (r .at) (r .stray) groups
   pub none-begins : NoneBegins (words groups)
   pub count-is : r .count ≡ length groups
   pub weak-is : r .weak ≡ weakIn groups

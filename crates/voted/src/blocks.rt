@@ -2,46 +2,26 @@
 // compiled to vector instructions. No branch depends on which copy is bad.
 ghost use Prim.Native.Nat.{ℕ, _+_, _*_, _-_, _≤_, _<_};
 ghost use mathlib.Core.Path.{_≡_};
-ghost use mathlib.Core.Bool.{true};
 ghost use lib.Dec.{eqb};
 ghost use lib.ListN.{length};
 ghost use Rattle.base.specs.Lists.{one};
 ghost use Rattle.voted.specs.Lanes.{columns, Blank, Gathered, copied, Counts};
 ghost use Rattle.voted.specs.Copies.{copies, IsVoted};
-ghost use Rattle.voted.specs.Stretches.{Spaced, RunRoom, RunsOn};
+ghost use Rattle.voted.specs.Stretches.{RunRoom, RunsOn};
 use crate::fill;
 use crate::placing::LAST_PLACE;
 use crate::placing::Run;
 use crate::votes;
-use base::format::FILL;
-use base::format::SYNC;
 
 // So many cells at most: two blocks fill a frame, and a split group costs no more than one.
 const LANES: usize = 64;
 
 const CELL: usize = 9;
 
-// Each two copies agree once.
-const ALIKE: u64 = 0x100010001;
-
 // What the columns tell: how often copies agree, and whether all three differ somewhere, where it is not 0.
 pub(crate) struct Told {
     pub(crate) sums: u64,
     pub(crate) split: u8,
-}
-
-// Whether SYNC stands here, and five FILL after the three copies.
-fn is_spaced(piece: &[u8], at: usize) -> bool
-    requires { ⌜ at + 8 < length (now piece) ⌝ }
-    ensures { λ r. ⌜ (r ≡ true → Spaced (now (piece .entry)) at) ⌝ }
-{
-    if piece[at] != SYNC {
-        return false;
-    }
-    if !fill::are_four(piece, at + 4) {
-        return false;
-    }
-    piece[at + 8] == FILL
 }
 
 // How many cells a block may have: it leaves the last place.
@@ -86,7 +66,7 @@ fn gather(
     let mut at = from;
     let mut k: usize = 0;
     while at < stop {
-        if !is_spaced(piece, at) {
+        if !fill::is_spaced(piece, at) {
             return k;
         }
         first[k] = piece[at + 1];
@@ -180,11 +160,12 @@ fn block(piece: &[u8], before: Run, frame: &mut [u8; 128]) -> Run
         at: from + CELL * n,
         placed: before.placed + n,
         last: from + CELL * (n - 1),
-        sums: before.sums + (told.sums - ALIKE * (LANES - n) as u64),
+        sums: before.sums + (told.sums - votes::ALIKE * (LANES - n) as u64),
+        stray: before.stray,
     }
 }
 
-// Blocks, with any FILL after each, as long as they take something.
+// Blocks, as long as they are whole: two at most.
 pub(crate) fn blocks(piece: &[u8], before: Run, frame: &mut [u8; 128]) -> Run
     requires { ⌜ RunRoom before ⌝ }
     ensures { λ r. ⌜ RunsOn (now (piece .entry)) before (now (frame .entry)) r (now (frame .exit)) ⌝ }
@@ -193,10 +174,8 @@ pub(crate) fn blocks(piece: &[u8], before: Run, frame: &mut [u8; 128]) -> Run
     let mut more = true;
     while more {
         let placed = next.placed;
-        let r = block(piece, next, frame);
-        more = placed < r.placed;
-        next = r;
-        next.at = nominal::skip_fill(piece, r.at);
+        next = block(piece, next, frame);
+        more = placed + LANES <= next.placed;
     }
     next
 }

@@ -1,44 +1,49 @@
-// FILL between groups of the usual spacing, by few comparisons.
+// The FILL of a group of the usual spacing, by few comparisons.
 ghost use mathlib.Core.Path.{_≡_};
 ghost use mathlib.Core.Bool.{true};
 ghost use Prim.Native.Nat.{_+_, _<_};
 ghost use lib.ListN.{length};
-ghost use Rattle.nominal.specs.Stretches.{FourFill, PastFill};
+ghost use Rattle.nominal.specs.Stretches.{FourFill};
+ghost use Rattle.voted.specs.Stretches.{Spaced, Alike};
 use base::format::FILL;
 use base::format::SYNC;
 
 const FOUR_FILL: u64 = 0x32323232;
 
 // Whether four FILL stand here.
-pub(crate) fn are_four(piece: &[u8], at: usize) -> bool
+fn are_four(piece: &[u8], at: usize) -> bool
     requires { ⌜ at + 3 < length (now piece) ⌝ }
     ensures { λ r. ⌜ (r ≡ true → FourFill (now (piece .entry)) at) ⌝ }
 {
     nominal::number(piece[at], piece[at + 1], piece[at + 2], piece[at + 3]) == FOUR_FILL
 }
 
-// Whether five FILL stand here, and then SYNC.
-fn are_five(piece: &[u8], from: usize) -> bool
-    ensures { λ r. ⌜ (r ≡ true → PastFill (now (piece .entry)) from (from + 5) × (from + 5 < length (now (piece .entry)))) ⌝ }
+// Whether SYNC stands here, and five FILL after the three copies.
+pub(crate) fn is_spaced(piece: &[u8], at: usize) -> bool
+    requires { ⌜ at + 8 < length (now piece) ⌝ }
+    ensures { λ r. ⌜ (r ≡ true → Spaced (now (piece .entry)) at) ⌝ }
 {
-    if nominal::starts(piece, 6) <= from {
+    if piece[at] != SYNC {
         return false;
     }
-    if !are_four(piece, from) {
+    if !are_four(piece, at + 4) {
         return false;
     }
-    if piece[from + 4] != FILL {
-        return false;
-    }
-    piece[from + 5] == SYNC
+    piece[at + 8] == FILL
 }
 
-// Past the FILL from `from` on. Five of them, as mostly, are looked for first.
-pub(crate) fn past_fill(piece: &[u8], from: usize) -> usize
-    ensures { λ r. ⌜ PastFill (now (piece .entry)) from r ⌝ }
+// The same, with three equal copies.
+pub(crate) fn is_cell(piece: &[u8], at: usize) -> bool
+    ensures { λ r. ⌜ (r ≡ true → Alike (now (piece .entry)) at) ⌝ }
 {
-    if are_five(piece, from) {
-        return from + 5;
+    if nominal::starts(piece, 9) <= at {
+        return false;
     }
-    nominal::skip_fill(piece, from)
+    if !is_spaced(piece, at) {
+        return false;
+    }
+    if piece[at + 1] != piece[at + 2] {
+        return false;
+    }
+    piece[at + 1] == piece[at + 3]
 }

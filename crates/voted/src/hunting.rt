@@ -1,7 +1,6 @@
 // Voted groups while the sync is hunted with nothing matched: words other than FA change nothing but counts.
 ghost use mathlib.Core.Path.{_≡_};
 ghost use Rattle.voted.specs.Stretches.{Sought, nonePassed, Hunted};
-use crate::fill;
 use crate::votes;
 use base::format::SYNC;
 use base::format::SYNC_WORD_0;
@@ -10,13 +9,14 @@ use labelling::Weak;
 // So many groups at most: as often copies can agree where three counts stand side by side.
 const MOST: u64 = 0xffff;
 
-// How far a stretch goes, how many groups it has, their weak copies, and the first two copies of the last of them.
+// How far a stretch goes, how many groups it has, their weak copies, the first two copies of the last of them, and its stray bytes.
 pub struct Passed {
     pub at: usize,
     pub count: u64,
     pub weak: Weak,
     pub first: u8,
     pub second: u8,
+    pub stray: u64,
 }
 
 // The same in a loop: where the last group stands, and how often copies agree.
@@ -25,67 +25,53 @@ pub(crate) struct Hunt {
     pub(crate) count: u64,
     pub(crate) last: usize,
     pub(crate) sums: u64,
+    pub(crate) stray: u64,
 }
 
-// Groups with any FILL before and after each, as far as a word FA.
+// Groups with any bytes but SYNC before and after each, as far as a word FA.
 fn other_groups(piece: &[u8], from: usize) -> Hunt
     ensures { λ r. ⌜ Sought (now (piece .entry)) from r ⌝ }
 {
     let end = nominal::starts(piece, 4);
-    let mut at = nominal::skip_fill(piece, from);
-    let mut count: u64 = 0;
-    let mut last = at;
-    let mut sums: u64 = 0;
-    while at < end {
-        if MOST <= count {
-            return Hunt {
-                at: at,
-                count: count,
-                last: last,
-                sums: sums,
-            };
-        }
+    let mut next = Hunt {
+        at: from,
+        count: 0,
+        last: from,
+        sums: 0,
+        stray: 0,
+    };
+    while next.at < end {
+        let at = next.at;
         if piece[at] != SYNC {
-            return Hunt {
-                at: at,
-                count: count,
-                last: last,
-                sums: sums,
+            let skipped = quiet::skip(piece, at);
+            next.at = skipped.at;
+            next.stray += skipped.stray;
+        } else {
+            if MOST <= next.count {
+                return next;
+            }
+            let seen = votes::see(piece, at);
+            if seen.agree == 0 {
+                return next;
+            }
+            if seen.word == SYNC_WORD_0 {
+                return next;
+            }
+            next = Hunt {
+                at: seen.at,
+                count: next.count + 1,
+                last: at,
+                sums: next.sums + seen.agree,
+                stray: next.stray + seen.stray,
             };
         }
-        let agree = votes::agreeing(piece, at);
-        if agree == 0 {
-            return Hunt {
-                at: at,
-                count: count,
-                last: last,
-                sums: sums,
-            };
-        }
-        if votes::word(piece, at) == SYNC_WORD_0 {
-            return Hunt {
-                at: at,
-                count: count,
-                last: last,
-                sums: sums,
-            };
-        }
-        sums += agree;
-        last = at;
-        count += 1;
-        at = fill::past_fill(piece, at + 4);
     }
-    Hunt {
-        at: at,
-        count: count,
-        last: last,
-        sums: sums,
-    }
+    next
 }
 
-// No group: FILL alone.
-fn none_passed(at: usize) -> Passed
-    ensures { λ r. ⌜ r ≡ nonePassed at ⌝ }
+// No group.
+fn none_passed(at: usize, stray: u64) -> Passed
+    ensures { λ r. ⌜ r ≡ nonePassed at stray ⌝ }
 {
     let none = Weak {
         first: 0,
@@ -98,6 +84,7 @@ fn none_passed(at: usize) -> Passed
         weak: none,
         first: 0,
         second: 0,
+        stray: stray,
     }
 }
 
@@ -107,7 +94,7 @@ pub fn pass(piece: &[u8], from: usize) -> Passed
 {
     let r = other_groups(piece, from);
     if r.count == 0 {
-        return none_passed(r.at);
+        return none_passed(r.at, r.stray);
     }
     let last = r.last;
     Passed {
@@ -116,5 +103,6 @@ pub fn pass(piece: &[u8], from: usize) -> Passed
         weak: votes::weak_of(r.sums, r.count),
         first: piece[last + 1],
         second: piece[last + 2],
+        stray: r.stray,
     }
 }

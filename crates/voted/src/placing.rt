@@ -3,7 +3,6 @@ ghost use Prim.Native.Nat.{_≤_};
 ghost use mathlib.Core.Path.{_≡_};
 ghost use Rattle.voted.specs.Stretches.{RunRoom, RunsOut, Longest, noGroup, Placed};
 use crate::blocks;
-use crate::fill;
 use crate::votes;
 use base::format::MINOR_FRAME;
 use base::format::SYNC;
@@ -12,13 +11,15 @@ use labelling::Weak;
 // The last place of a frame is left to the caller: its word may complete a major frame.
 pub(crate) const LAST_PLACE: usize = MINOR_FRAME - 1;
 
-// How far a stretch goes, how far the frame is filled then, the weak copies of its groups, and the first two copies of the last of them.
+// How far a stretch goes, how far the frame is filled then, the weak copies of its groups, the first two copies of the last of them, and
+// its stray bytes.
 pub struct Filled {
     pub at: usize,
     pub placed: usize,
     pub weak: Weak,
     pub first: u8,
     pub second: u8,
+    pub stray: u64,
 }
 
 // The same in a loop: where the last group stands, and how often copies agree.
@@ -27,56 +28,42 @@ pub(crate) struct Run {
     pub(crate) placed: usize,
     pub(crate) last: usize,
     pub(crate) sums: u64,
+    pub(crate) stray: u64,
 }
 
-// Groups with any FILL before and after each: all that is left of the stretch.
+// Groups with any bytes but SYNC before and after each: all that is left of the stretch.
 fn groups(piece: &[u8], before: Run, frame: &mut [u8; 128]) -> Run
     requires { ⌜ RunRoom before ⌝ }
     ensures { λ r. ⌜ RunsOut (now (piece .entry)) before (now (frame .entry)) r (now (frame .exit)) ⌝ }
 {
     let end = nominal::starts(piece, 4);
-    let mut at = nominal::skip_fill(piece, before.at);
-    let mut p = before.placed;
-    let mut last = before.last;
-    let mut sums = before.sums;
-    while at < end {
-        if LAST_PLACE <= p {
-            return Run {
-                at: at,
-                placed: p,
-                last: last,
-                sums: sums,
-            };
-        }
+    let mut next = before;
+    while next.at < end {
+        let at = next.at;
         if piece[at] != SYNC {
-            return Run {
-                at: at,
-                placed: p,
-                last: last,
-                sums: sums,
+            let skipped = quiet::skip(piece, at);
+            next.at = skipped.at;
+            next.stray += skipped.stray;
+        } else {
+            let p = next.placed;
+            if LAST_PLACE <= p {
+                return next;
+            }
+            let seen = votes::see(piece, at);
+            if seen.agree == 0 {
+                return next;
+            }
+            frame[p] = seen.word;
+            next = Run {
+                at: seen.at,
+                placed: p + 1,
+                last: at,
+                sums: next.sums + seen.agree,
+                stray: next.stray + seen.stray,
             };
         }
-        let agree = votes::agreeing(piece, at);
-        if agree == 0 {
-            return Run {
-                at: at,
-                placed: p,
-                last: last,
-                sums: sums,
-            };
-        }
-        frame[p] = votes::word(piece, at);
-        sums += agree;
-        last = at;
-        p += 1;
-        at = fill::past_fill(piece, at + 4);
     }
-    Run {
-        at: at,
-        placed: p,
-        last: last,
-        sums: sums,
-    }
+    next
 }
 
 // The whole stretch: blocks of cells, and groups.
@@ -89,13 +76,14 @@ fn longest(piece: &[u8], from: usize, start: usize, frame: &mut [u8; 128]) -> Ru
         placed: start,
         last: from,
         sums: 0,
+        stray: 0,
     };
     groups(piece, blocks::blocks(piece, begun, frame), frame)
 }
 
-// No group: FILL alone.
-fn no_group(at: usize, start: usize) -> Filled
-    ensures { λ r. ⌜ r ≡ noGroup at start ⌝ }
+// No group.
+fn no_group(at: usize, start: usize, stray: u64) -> Filled
+    ensures { λ r. ⌜ r ≡ noGroup at start stray ⌝ }
 {
     let none = Weak {
         first: 0,
@@ -108,6 +96,7 @@ fn no_group(at: usize, start: usize) -> Filled
         weak: none,
         first: 0,
         second: 0,
+        stray: stray,
     }
 }
 
@@ -116,11 +105,12 @@ pub fn place(piece: &[u8], from: usize, start: usize, frame: &mut [u8; 128]) -> 
     ensures { λ r. ⌜ Placed (now (piece .entry)) from start (now (frame .entry)) r (now (frame .exit)) ⌝ }
 {
     if LAST_PLACE <= start {
-        return no_group(nominal::skip_fill(piece, from), start);
+        let skipped = quiet::skip(piece, from);
+        return no_group(skipped.at, start, skipped.stray);
     }
     let r = longest(piece, from, start, frame);
     if r.placed == start {
-        return no_group(r.at, start);
+        return no_group(r.at, start, r.stray);
     }
     let last = r.last;
     Filled {
@@ -129,5 +119,6 @@ pub fn place(piece: &[u8], from: usize, start: usize, frame: &mut [u8; 128]) -> 
         weak: votes::weak_of(r.sums, (r.placed - start) as u64),
         first: piece[last + 1],
         second: piece[last + 2],
+        stray: r.stray,
     }
 }

@@ -3,8 +3,11 @@ ghost use mathlib.Core.Path.{_≡_};
 ghost use mathlib.Core.Bool.{false};
 ghost use Prim.Native.Nat.{_+_, _<_};
 ghost use lib.ListN.{length};
-ghost use Rattle.voted.specs.Stretches.{Group};
+ghost use Rattle.base.specs.Format as format;
+ghost use Rattle.quiet.specs.Quiet.{Byte};
+ghost use Rattle.voted.specs.Stretches.{Group, Looked};
 ghost use Rattle.voted.specs.Copies.{Copies, copies, copiesAt, IsVoted, wordOf, sideBySide, agreement, Agreed, Agreement};
+use crate::fill;
 use base::format::SYNC;
 use base::wide;
 use labelling::Weak;
@@ -13,6 +16,17 @@ use labelling::Weak;
 const OUTER: u64 = 0x10000;
 
 const LAST: u64 = 0x100000000;
+
+// Each two copies agree once.
+pub(crate) const ALIKE: u64 = 0x100010001;
+
+// What is told of a group: which copies agree, none where it is split, its word, and the next SYNC after it with the stray bytes before that.
+pub(crate) struct Seen {
+    pub(crate) agree: u64,
+    pub(crate) word: u8,
+    pub(crate) at: usize,
+    pub(crate) stray: u64,
+}
 
 // The copies of the group at `at`.
 pub(crate) fn agreeing(piece: &[u8], at: usize) -> u64
@@ -49,6 +63,35 @@ pub(crate) fn by_masks(a: u8, b: u8, c: u8) -> u8
     (a & b) | (a & c) | (b & c)
 }
 
+// The group at `at` and what stands after it. Three equal copies and five FILL, as mostly, are looked for first.
+pub(crate) fn see(piece: &[u8], at: usize) -> Seen
+    requires { ⌜ at + 3 < length (now piece) ⌝ }
+    ensures { λ r. ⌜ Looked (now (piece .entry)) at r ⌝ }
+{
+    if fill::is_cell(piece, at) {
+        return Seen {
+            agree: ALIKE,
+            word: piece[at + 1],
+            at: at + 9,
+            stray: 0,
+        };
+    }
+    let skipped = quiet::skip(piece, at + 4);
+    Seen {
+        agree: agreeing(piece, at),
+        word: word(piece, at),
+        at: skipped.at,
+        stray: skipped.stray,
+    }
+}
+
+// 0 where at least two copies are equal: what each two differ in, multiplied. Tests for equal ones would be compiled to branches.
+fn apart(a: u8, b: u8, c: u8) -> u64
+    ensures { λ r. ⌜ (IsVoted (copies a b c) → r ≡ 0) ⌝ }
+{
+    (wide(a) ^ wide(b)) * (wide(a) ^ wide(c)) * (wide(b) ^ wide(c))
+}
+
 // Whether a group of which two copies are equal stands here.
 pub fn group_stands(piece: &[u8], at: usize) -> bool
     ensures { λ r. ⌜ (r ≡ false → (g : Copies) → Group (now (piece .entry)) at g → IsVoted g → ⊥) ⌝ }
@@ -59,7 +102,7 @@ pub fn group_stands(piece: &[u8], at: usize) -> bool
     if piece[at] != SYNC {
         return false;
     }
-    agreeing(piece, at) != 0
+    apart(piece[at + 1], piece[at + 2], piece[at + 3]) == 0
 }
 
 // How often each copy was the weak one in n groups, of which each has two equal copies: where all three are, each two are counted.

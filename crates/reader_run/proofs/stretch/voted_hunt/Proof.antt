@@ -16,15 +16,12 @@ returns c = (λ frame b. none-onward b, c .before .before .before .pre .1 .0)
 pass-requires : tie.Need-pass-requires
 pass-requires c κs = search needs
 
-returns-2 : tie.Need-returns-2
-returns-2 c = (λ frame b. none-onward b, start (c .before .before) .pre .1 .0)
-
 sub-after-voted : tie.Need-sub-after-voted
-sub-after-voted c = omega (arith, hunted-far (c .before .before .before .pass .ensures))
+sub-after-voted c = omega (arith, hunted-far (c .before .pass .ensures))
 
 after-voted-requires : tie.Need-after-voted-requires
 after-voted-requires c κs =
-    let passed = c .before .before .before in
+    let passed = c .before in
     let s = start passed in
     let p = passed .pass .ensures in
     let far = hunted-far p in
@@ -35,23 +32,21 @@ after-voted-requires c κs =
 add-f : tie.Need-add-f
 add-f c =
     let counted = c .before .before .before in
-    let passed = counted .before .before .before .before in
+    let passed = counted .before .before in
     let s = start passed in
     let p = passed .pass .ensures in
     let far = hunted-far p in
     let inside = decided-inside (p .stretch) (s .pre .0 .2 .inside) in
     omega (arith, s .pre .0 .1 .hunted-max, s .pre .0 .2 .limit)
 
-returns-3 : tie.Need-returns-3
-returns-3 c =
+returns-2 : tie.Need-returns-2
+returns-2 c =
     let counted = c .before .before .before in
-    let passed = counted .before .before .before .before in
+    let passed = counted .before .before in
     let s = start passed in
     let p = passed .pass .ensures in
     let g = counted .after-voted .ensures (p .groups) (hunted-groups p) in
     (λ frame b. hunted-onward b (s .pre .1 .0) p (s .pre .1 .1) (passed .before .if1 .left) g, rw g (s .pre .1 .0))
 
 pub voted-hunt-spec : {M : Type 1} → statement M
-voted-hunt-spec =
-    tie.close
-    (tie.spec returns pass-requires returns-2 sub-after-voted after-voted-requires add-f returns-3)
+voted-hunt-spec = tie.close (tie.spec returns pass-requires sub-after-voted after-voted-requires add-f returns-2)

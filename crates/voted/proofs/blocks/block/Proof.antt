@@ -118,7 +118,11 @@ returns-3 c =
         kept = λ i q f b.
             block-kept b (words p) (cells p .gather .ensures .0) (λ m h. voted m (omega arith))
             (λ m h. v .words-are m (omega arith) (voted m (omega arith))) (some-cells p) (omega (arith, off p .1)) (p .put .ensures);
-        has-room = record { room = room p; few = omega (arith, off p .1, total-few (ls p) (n p), start p .pre .few) };
+        has-room = record {
+          room = room p;
+          few-stray = omega (arith, start p .pre .few-stray);
+          few = omega (arith, off p .1, total-few (ls p) (n p), start p .pre .few);
+        };
       },
       omega arith,
     )

@@ -1,119 +1,139 @@
--- `voted::hunting::other_groups` meets its contract: the run so far goes on by one group with the FILL after it at each turn; it ends where there are too
--- many groups, where no SYNC stands, where all copies differ, where the word is FA, or where no whole group is left. Assumes nothing.
+-- `voted::hunting::other_groups` meets its contract: the run so far goes on past what is no SYNC, or by one group, at each turn; it ends where there
+-- are too many groups, where all copies differ, where the word is FA, or where no whole group is left. Assumes nothing.
 use mathlib.Core.Path.{_≡_, sym, _∙_}
-use Prim.Native.Nat.{_-_}
+use Prim.Native.Nat.{_+_, _-_, _<_}
 use native.Mathlib.Omega.{arith}
 use lib.ListN.{length}
-use Rattle.base.specs.Format.{SYNC, FILL, syncWord}
+use Rattle.base.specs.Format.{SYNC, syncWord}
 use Rattle.quiet.specs.Quiet.{Byte}
-use Rattle.nominal.proofs.Joining.{nominal-far, nominal-inside}
-use Rattle.voted.specs.Copies.{copiesAt, wordOf}
+use Rattle.quiet.proofs.Joining.{quiet-far}
+use Rattle.voted.specs.Copies.{copiesAt, IsVoted, wordOf}
 use Rattle.voted.proofs.Agreeing.{agreement-few, voted-of}
-use Rattle.voted.proofs.Joining.{hunt, Going, past-fill, group-at, going-none, going-on, sought}
-use Rattle.voted.proofs.Joining.{stops-short, stops-unlike, stops-split, stops-left, stops-first}
+use Rattle.voted.proofs.Joining.{decided-far, decided-inside, past-quiet, past-moves, group-at}
+use Rattle.voted.proofs.Joining.{Going, going-none, going-quiet, going-on, sought}
+use Rattle.voted.proofs.Joining.{stops-short, stops-split, stops-left, stops-first}
 use borrow.Author.Needs.{needs}
 use Rattle.voted.proofs.hunting.other_groups.Statement.{statement}
 use Rattle.voted.proofs.hunting.other_groups.Tie as tie
 
 abbrev Inv-loop : tie.InvT-loop
-Inv-loop piece from end at₀ count₀ last₀ sums₀ at count last sums = Going piece from (hunt at count last sums) × (Byte piece at FILL → ⊥)
+Inv-loop piece from end next₀ next = Going piece from next
 
 abbrev μ-loop : tie.MeasureT-loop
-μ-loop piece from end at₀ count₀ last₀ sums₀ at count last sums = length piece - at
+μ-loop piece from end next₀ next = length piece - next .at
+
+-- a group that is taken: its copies, two of which agree
+module _ (c : tie.Else5 Inv-loop μ-loop) where
+  abbrev agreed : tie.Else4 Inv-loop μ-loop
+  agreed = c .before .before
+
+  abbrev seen : tie.After-see Inv-loop μ-loop
+  seen = agreed .before .before
+
+  abbrev sync : tie.Else2 Inv-loop μ-loop
+  sync = seen .before .before .before
 
 starts-requires : tie.Need-starts-requires Inv-loop μ-loop
 starts-requires c κs = omega arith
 
-skip-fill-requires : tie.Need-skip-fill-requires Inv-loop μ-loop
-skip-fill-requires c κs = search needs
-
 loop-holds : tie.Need-loop-holds Inv-loop μ-loop
-loop-holds c =
-    let filled = c .skip-fill .ensures in
-    (going-none (c .skip-fill .result) (past-fill (filled .stretch)), filled .no-fill)
-
-returns : tie.Need-returns Inv-loop μ-loop
-returns c =
-    let k = c .before .before .loop in
-    sought (k .inv .0) (stops-left (k .inv .1) (λ g h. absurd (omega (arith, c .if1 .taken))))
+loop-holds c = going-none _
 
 shared-slice-read-if2 : tie.Need-shared-slice-read-if2 Inv-loop μ-loop
 shared-slice-read-if2 c = omega arith
 
-returns-2 : tie.Need-returns-2 Inv-loop μ-loop
-returns-2 c =
-    let tested = c .before .before in
-    let k = tested .before .before .loop in
-    sought (k .inv .0) (stops-unlike (k .inv .1) (c .if2 .taken))
+skip-requires : tie.Need-skip-requires Inv-loop μ-loop
+skip-requires c κs = search needs
 
-agreeing-requires : tie.Need-agreeing-requires Inv-loop μ-loop
-agreeing-requires c κs = omega arith
-
-returns-3 : tie.Need-returns-3 Inv-loop μ-loop
-returns-3 c =
-    let agreeing = c .before in
-    let tested = agreeing .before .before .before in
-    let k = tested .before .before .loop in
-    sought (k .inv .0) (stops-split (k .inv .1) (sym (agreeing .agreeing .ensures) ∙ c .if3 .taken))
-
-word-requires : tie.Need-word-requires Inv-loop μ-loop
-word-requires c κs = omega arith
-
-returns-4 : tie.Need-returns-4 Inv-loop μ-loop
-returns-4 c =
-    let agreed = c .before .before in
-    let agreeing = agreed .before in
-    let tested = agreeing .before .before .before in
-    let turn = tested .before .before in
-    let k = turn .loop in
-    let p = turn .before .before .before .before .args .piece .now in
-    let voted = voted-of (copiesAt p (k .at)) (λ e. agreed .if3 .left (agreeing .agreeing .ensures ∙ e)) in
-    sought (k .inv .0) (stops-first (k .inv .1) (c .before .word .ensures voted) (c .if4 .taken))
-
-add-sums : tie.Need-add-sums Inv-loop μ-loop
-add-sums c =
-    let agreed = c .before .before in
-    let agreeing = agreed .before in
-    let tested = agreeing .before .before .before in
-    let turn = tested .before .before in
-    let k = turn .loop in
-    let g = copiesAt (turn .before .before .before .before .args .piece .now) (k .at) in
-    omega (arith, agreeing .agreeing .ensures, agreement-few g, k .inv .0 .few, k .inv .0 .most)
-
-add-count : tie.Need-add-count Inv-loop μ-loop
-add-count c = omega arith
-
-add-past-fill : tie.Need-add-past-fill Inv-loop μ-loop
-add-past-fill c = omega arith
-
-past-fill-requires : tie.Need-past-fill-requires Inv-loop μ-loop
-past-fill-requires c κs = search needs
+add-next : tie.Need-add-next Inv-loop μ-loop
+add-next c =
+    let skipped = c .before .before in
+    let turn = skipped .before .before .before .before .before in
+    omega (arith, quiet-far (skipped .skip .ensures .quiet), turn .loop .inv .few-stray)
 
 loop-less : tie.Need-loop-less Inv-loop μ-loop
 loop-less c =
-    let filled = c .past-fill .ensures .stretch in
-    omega (arith, nominal-far filled, nominal-inside filled (omega arith))
+    let skipped = c .before .before in
+    let moved = past-moves (skipped .skip .ensures) (omega arith) (skipped .before .if2 .taken) in
+    omega arith
 
 loop-again : tie.Need-loop-again Inv-loop μ-loop
 loop-again c =
-    let other = c .before in
-    let agreed = other .before .before in
-    let agreeing = agreed .before in
-    let tested = agreeing .before .before .before in
-    let turn = tested .before .before in
-    let k = turn .loop in
-    let p = turn .before .before .before .before .args .piece .now in
-    let agree = agreeing .agreeing .ensures in
-    let voted = voted-of (copiesAt p (k .at)) (λ e. agreed .if3 .left (agree ∙ e)) in
-    let sync : Byte p (k .at) SYNC = record { inside = omega arith; is = agreeing .before .if2 .left } in
-    let unlike : wordOf (copiesAt p (k .at)) ≡ syncWord 0 → ⊥ = λ e. other .if4 .left (other .before .word .ensures voted ∙ e) in
-    let filled = c .past-fill .ensures in
-    (going-on (k .inv .0) (omega arith) (group-at sync (omega arith)) voted unlike (past-fill (filled .stretch)) agree, filled .no-fill)
+    let skipped = c .before .before in
+    let turn = skipped .before .before .before .before .before in
+    going-quiet (turn .loop .inv) (past-quiet (skipped .skip .ensures .quiet))
 
-returns-5 : tie.Need-returns-5 Inv-loop μ-loop
-returns-5 c =
-    let k = c .before .loop in
-    sought (k .inv .0) (stops-short (k .inv .1) (omega arith))
+returns : tie.Need-returns Inv-loop μ-loop
+returns c =
+    let synced = c .before .before in
+    let turn = synced .before .before .before .before in
+    sought (turn .loop .inv) (stops-left (synced .if2 .left) (λ g h. absurd (omega (arith, c .if3 .taken))))
+
+see-requires : tie.Need-see-requires Inv-loop μ-loop
+see-requires c κs = omega arith
+
+returns-2 : tie.Need-returns-2 Inv-loop μ-loop
+returns-2 c =
+    let looked = c .before .before in
+    let synced = looked .before .before .before in
+    let turn = synced .before .before .before .before in
+    sought (turn .loop .inv) (stops-split (synced .if2 .left) (sym (looked .see .ensures .agree-is) ∙ c .if4 .taken))
+
+returns-3 : tie.Need-returns-3 Inv-loop μ-loop
+returns-3 c =
+    let some = c .before .before in
+    let looked = some .before .before in
+    let synced = looked .before .before .before in
+    let turn = synced .before .before .before .before in
+    let p = turn .before .before .before .args .piece .now in
+    let told = looked .see .ensures in
+    let voted = voted-of (copiesAt p (turn .loop .next .at)) (λ e. some .if4 .left (told .agree-is ∙ e)) in
+    sought (turn .loop .inv) (stops-first (synced .if2 .left) (told .word-is voted) (omega (arith, c .if5 .taken)))
+
+add-t12 : tie.Need-add-t12 Inv-loop μ-loop
+add-t12 c =
+    let turn = sync (c .before) .before .before .before .before in
+    omega (arith, turn .loop .inv .most)
+
+add-t13 : tie.Need-add-t13 Inv-loop μ-loop
+add-t13 c =
+    let other = c .before .before .before in
+    let turn = sync other .before .before .before .before in
+    let g = copiesAt (turn .before .before .before .args .piece .now) (turn .loop .next .at) in
+    omega (arith, seen other .see .ensures .agree-is, agreement-few g, turn .loop .inv .few, turn .loop .inv .most)
+
+add-t14 : tie.Need-add-t14 Inv-loop μ-loop
+add-t14 c =
+    let other = c .before .before .before .before .before in
+    let turn = sync other .before .before .before .before in
+    omega (arith, decided-far (seen other .see .ensures .between), turn .loop .inv .few-stray)
+
+loop-less-2 : tie.Need-loop-less-2 Inv-loop μ-loop
+loop-less-2 c =
+    let other = c .before .before .before .before .before in
+    let turn = sync other .before .before .before .before in
+    let p = turn .before .before .before .args .piece .now in
+    let whole : turn .loop .next .at + 3 < length p = omega (arith, sync other .before .before .if1 .taken, turn .before .starts .ensures) in
+    let between = seen other .see .ensures .between in
+    omega (arith, whole, decided-far between, decided-inside between (omega (arith, whole)))
+
+loop-again-2 : tie.Need-loop-again-2 Inv-loop μ-loop
+loop-again-2 c =
+    let other = c .before .before .before .before .before in
+    let turn = sync other .before .before .before .before in
+    let k = turn .loop in
+    let p = turn .before .before .before .args .piece .now in
+    let g = copiesAt p (k .next .at) in
+    let told = seen other .see .ensures in
+    let voted : IsVoted g = voted-of g (λ e. agreed other .if4 .left (told .agree-is ∙ e)) in
+    let whole : k .next .at + 3 < length p = omega (arith, sync other .before .before .if1 .taken, turn .before .starts .ensures) in
+    let here : Byte p (k .next .at) SYNC = record { inside = omega (arith, whole); is = sync other .if2 .left } in
+    let few = seen other .before .if3 .left in
+    let unlike : wordOf g ≡ syncWord 0 → ⊥ = λ e. omega (arith, other .if5 .left, told .word-is voted, e) in
+    going-on (k .inv) (omega (arith, few)) (group-at here whole) voted unlike (told .between) (told .agree-is)
+
+returns-4 : tie.Need-returns-4 Inv-loop μ-loop
+returns-4 c = sought (c .before .before .loop .inv) (stops-short (omega arith))
 
 pub other-groups-spec : {M : Type 1} → statement M
 other-groups-spec =
@@ -122,19 +142,19 @@ other-groups-spec =
     Inv-loop
     μ-loop
     starts-requires
-    skip-fill-requires
     loop-holds
-    returns
     shared-slice-read-if2
-    returns-2
-    agreeing-requires
-    returns-3
-    word-requires
-    returns-4
-    add-sums
-    add-count
-    add-past-fill
-    past-fill-requires
+    skip-requires
+    add-next
     loop-less
     loop-again
-    returns-5)
+    returns
+    see-requires
+    returns-2
+    returns-3
+    add-t12
+    add-t13
+    add-t14
+    loop-less-2
+    loop-again-2
+    returns-4)

@@ -3,21 +3,23 @@ use mathlib.Core.Path.{refl}
 use native.Mathlib.Omega.{arith}
 use Rattle.voted.specs.Copies.{weakIn}
 use Rattle.voted.proofs.Agreeing.{alike}
-use Rattle.voted.proofs.Joining.{past-fill, stops-left, placed-none, placed-empty, placed-some, run-summed, last-inside}
+use Rattle.voted.proofs.Joining.{past-quiet, placed-none, placed-empty, placed-some, run-summed, last-inside}
 use borrow.Author.Needs.{needs}
 use Rattle.voted.proofs.placing.place.Statement.{statement}
 use Rattle.voted.proofs.placing.place.Tie as tie
 
-skip-fill-requires : tie.Need-skip-fill-requires
-skip-fill-requires c κs = search needs
+skip-requires : tie.Need-skip-requires
+skip-requires c κs = search needs
 
 no-group-requires : tie.Need-no-group-requires
 no-group-requires c κs = search needs
 
 returns : tie.Need-returns
 returns c =
-    let filled = c .before .skip-fill .ensures in
-    rw (c .no-group .ensures) (placed-none (past-fill (filled .stretch)) (stops-left (filled .no-fill) (λ g. c .before .before .if1 .taken)))
+    let skipped = c .before in
+    let went = skipped .skip .ensures in
+    rw (c .no-group .ensures)
+    (placed-none (past-quiet (went .quiet)) (λ h. (went .stops (omega arith), λ g s v. skipped .before .if1 .taken)))
 
 longest-requires : tie.Need-longest-requires
 longest-requires c κs = search needs
@@ -71,7 +73,7 @@ pub place-spec : {M : Type 1} → statement M
 place-spec =
     tie.close
     (tie.spec
-    skip-fill-requires
+    skip-requires
     no-group-requires
     returns
     longest-requires

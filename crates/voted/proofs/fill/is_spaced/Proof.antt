@@ -1,11 +1,11 @@
--- `voted::blocks::is_spaced` meets its contract: SYNC, four FILL, and the fifth. Assumes nothing.
+-- `voted::fill::is_spaced` meets its contract: SYNC, four FILL, and the fifth. Assumes nothing.
 use mathlib.Core.Path.{sym}
 use mathlib.Core.Bool.{true≢false}
 use native.Mathlib.Omega.{arith}
 use borrow.Author.Tests.{eqb-true, not-false}
 use borrow.Author.Needs.{needs}
-use Rattle.voted.proofs.blocks.is_spaced.Statement.{statement}
-use Rattle.voted.proofs.blocks.is_spaced.Tie as tie
+use Rattle.voted.proofs.fill.is_spaced.Statement.{statement}
+use Rattle.voted.proofs.fill.is_spaced.Tie as tie
 
 shared-slice-read-if1 : tie.Need-shared-slice-read-if1
 shared-slice-read-if1 c = search needs
