@@ -220,7 +220,6 @@ fn accepted(
 }
 
 fn layers_of(n: &[u64; NUMBERS]) -> Layers
-    requires { ⌜ isTally (now n) ≡ true ⌝ }
     ensures { λ r. ⌜ r ≡ layersIn (now (n .entry)) ⌝ }
 {
     let groups = tally_numbers::groups_of(n);

@@ -15,7 +15,7 @@ returns : tie.Need-returns
 returns c = (rw (sym (c .before .is-tally .ensures) ∙ not-true _ (c .if1 .taken)), λ z. absurd (true≢false (sym z)))
 
 tally-of-requires : tie.Need-tally-of-requires
-tally-of-requires c κs = sym (c .before .is-tally .ensures) ∙ not-false _ (c .if1 .left)
+tally-of-requires c κs = search needs
 
 in-order-requires : tie.Need-in-order-requires
 in-order-requires c κs = search needs

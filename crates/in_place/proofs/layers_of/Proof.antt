@@ -1,11 +1,10 @@
 -- `in_place::layers_of` meets its contract: each layer is read by itself. Assumes nothing.
-use Rattle.tally_numbers.proofs.Numbers.{passed}
 use borrow.Author.Needs.{needs}
 use Rattle.in_place.proofs.layers_of.Statement.{statement}
 use Rattle.in_place.proofs.layers_of.Tie as tie
 
 groups-of-requires : tie.Need-groups-of-requires
-groups-of-requires c κs = let p = passed _ (c .pre) in (p .first-byte, p .second-byte)
+groups-of-requires c κs = search needs
 
 framing-of-requires : tie.Need-framing-of-requires
 framing-of-requires c κs = search needs

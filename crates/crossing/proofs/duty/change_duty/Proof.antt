@@ -35,7 +35,7 @@ returns-2 c =
     duty-no-operator _ _ (o .0) (o .1) (omega (arith, c .if2 .taken))
 
 tally-of-requires : tie.Need-tally-of-requires
-tally-of-requires c κs = let known = c .before .before in ordered (known .before) .0
+tally-of-requires c κs = search needs
 
 on-duty-requires : tie.Need-on-duty-requires
 on-duty-requires c κs = search needs
