@@ -42,11 +42,14 @@ fn step(t: &mut Tally, piece: &[u8], area: &mut [u8]) -> (usize, bool) {
     }
     let run = if t.hunting { hunt(t, piece) } else { place(t, piece) };
     run.count(t);
-    let taken = run.bytes + voted::take(t, &piece[run.bytes..]);
-    if taken == 0 {
-        return next_group(t, piece, area);
+    let at = run.bytes + quiet(t, &piece[run.bytes..]);
+    match voted::take(t, &piece[at..]) {
+        0 => {
+            let (taken, complete) = next_group(t, &piece[at..], area);
+            (at + taken, complete)
+        }
+        taken => (at + taken, false),
     }
-    (taken, false)
 }
 
 // How far nominal groups and FILL go, how many groups they are, and the last one's word.
@@ -231,20 +234,25 @@ pub fn leading_fill(piece: &[u8]) -> usize {
     at + piece[at..].iter().take_while(|&&b| b == FILL).count()
 }
 
-// What stands before the next SYNC, and its group where the piece has the whole of it.
-fn next_group(t: &mut Tally, piece: &[u8], area: &mut [u8]) -> (usize, bool) {
+// Counts what stands before the next SYNC: how many bytes.
+fn quiet(t: &mut Tally, piece: &[u8]) -> usize {
     let (at, fill) = before_sync(piece);
     t.bytes += at as u64;
     t.fill += fill as u64;
     t.stray += (at - fill) as u64;
-    match piece.get(at..at + GROUP) {
+    at
+}
+
+// The group of the SYNC that comes next, where the piece has the whole of it.
+fn next_group(t: &mut Tally, piece: &[u8], area: &mut [u8]) -> (usize, bool) {
+    match piece.get(..GROUP) {
         Some(&[_, first, second, third]) => {
             t.bytes += GROUP as u64;
             t.first = first;
             t.second = second;
-            (at + GROUP, group(t, third, area))
+            (GROUP, group(t, third, area))
         }
-        _ => (at, false),
+        _ => (0, false),
     }
 }
 
