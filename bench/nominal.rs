@@ -235,7 +235,11 @@ pub fn leading_fill(piece: &[u8]) -> usize {
 }
 
 // Counts what stands before the next SYNC: how many bytes.
+#[inline(always)]
 fn quiet(t: &mut Tally, piece: &[u8]) -> usize {
+    if piece.first() == Some(&SYNC) {
+        return 0;
+    }
     let (at, fill) = before_sync(piece);
     t.bytes += at as u64;
     t.fill += fill as u64;
