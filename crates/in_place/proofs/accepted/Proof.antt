@@ -130,7 +130,8 @@ module _ (ran : tie.After-run) where
 
 returns : tie.Need-returns
 returns c =
-    let ran = c .before .before .before .before .before in
+    let given-back = c .before .before in
+    let ran = given-back .before .before .before in
     let so = same ran in (
       refl,
       record {

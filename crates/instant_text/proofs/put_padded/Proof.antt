@@ -45,7 +45,8 @@ returns : tie.Need-returns
 unfolding padded
 returns c =
     let number = c .before .before in
-    let zeros = number .before .before .before .before .before in
+    let given-back = number .before .before in
+    let zeros = given-back .before .before .before in
     let missing = zeros .before .before .before in
     let spelt = missing .before in
     let start = spelt .before .before .before in

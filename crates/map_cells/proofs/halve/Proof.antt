@@ -34,9 +34,11 @@ loop-less c =
 
 loop-again : tie.Need-loop-again Inv-loop μ-loop
 loop-again c =
-    let looped = c .before .before .before .loop in
-    let old = now (c .before .before .before .before .before .args .cells) in
-    let here = c .before .before .loop-test .taken in
+    let tested = c .before .before in
+    let at-loop = tested .before in
+    let looped = at-loop .loop in
+    let old = now (at-loop .before .before .args .cells) in
+    let here = tested .loop-test .taken in
     let v = c .pair .result in
     let joined = c .pair .ensures ∙ pair-rest old (looped .cells) (looped .i) (looped .inv .1) in
     (omega (arith, here, length-set (looped .cells) (looped .i) v), upto-next (pairIn old) old (looped .cells) (looped .i) v here joined (looped .inv .1))

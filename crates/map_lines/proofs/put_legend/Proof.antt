@@ -34,9 +34,12 @@ same-length c = search needs
 returns : tie.Need-returns
 returns c =
     let last = c .before .before in
-    let third = last .before .before .before .before .before in
-    let second = third .before .before .before .before .before in
-    let first = second .before .before .before .before .before in
+    let third-given-back = last .before .before in
+    let third = third-given-back .before .before .before in
+    let second-given-back = third .before .before in
+    let second = second-given-back .before .before .before in
+    let first-given-back = second .before .before in
+    let first = first-given-back .before .before .before in
     adds-append (adds-append (adds-append (first .put-field .ensures) (second .put-field2 .ensures)) (third .put-field3 .ensures)) (last .put .ensures)
 
 pub put-legend-spec : {M : Type 1} → statement M
