@@ -1,12 +1,13 @@
 -- A row of sixteen groups, from what is known of each of its bytes. Assumes nothing.
-use mathlib.Core.Path.{_≡_, refl}
+use mathlib.Core.Path.{_≡_, refl, _∙_}
 use mathlib.Core.Bool.{Bool, true, false, not, _&&_, _||_}
 use mathlib.Core.List.{List}
 use Prim.Native.Nat.{ℕ, _+_, _*_, _%_, _≤_, _<_}
 use native.Mathlib.Omega.{arith}
 use mir.Val.{boolByte}
 use lib.Dec.{eqb}
-use lib.ListN.{length, getD}
+use lib.ListN.{length, getD, set}
+use lib.Seq.{getD-set-same, getD-set-other}
 use borrow.Author.Count.{below-more}
 use borrow.Author.Tests.{eq-eqb, eqb-true}
 use Rattle.base.specs.Format.{SYNC}
@@ -69,3 +70,15 @@ module _ (p : List ℕ) (i : ℕ) where
         second = record { inside = omega arith; is = cc };
         third = record { inside = omega arith; is = cc };
       }
+
+-- ---- the words of a row
+
+module _ (p : List ℕ) (i : ℕ) where
+  -- the first k words
+  abbrev pub WordsTo : List ℕ → ℕ → Type 0
+  WordsTo ws k = (m : ℕ) → m < k → getD ws m 0 ≡ getD p (i + 4 * m + 1) 0
+
+  pub words-more : (ws : List ℕ) (k x : ℕ) → k < length ws → WordsTo ws k → x ≡ getD p (i + 4 * k + 1) 0 → WordsTo (set ws k x) (k + 1)
+  words-more ws k x h so-far e =
+      let others : WordsTo (set ws k x) k = λ m l. getD-set-other ws k m x 0 (λ same. omega (arith, same, l)) ∙ so-far m l in
+      below-more (λ m. getD (set ws k x) m 0 ≡ getD p (i + 4 * m + 1) 0) k others (getD-set-same ws k x 0 h ∙ e)

@@ -2,9 +2,10 @@
 // instructions.
 ghost use mathlib.Core.Path.{_≡_};
 ghost use mathlib.Core.Bool.{true};
-ghost use Prim.Native.Nat.{_+_, _≤_, _<_};
+ghost use Prim.Native.Nat.{_+_, _/_, _%_, _≤_, _<_};
 ghost use lib.ListN.{length};
-ghost use Rattle.nominal.specs.Stretches.{Belongs, Row, lastPlace, Stored};
+ghost use Rattle.nominal.specs.Stretches.{Belongs, Row, RowWords, lastPlace, Stored};
+use crate::numbers;
 use base::format::SYNC;
 
 const GROUP: usize = 4;
@@ -34,14 +35,36 @@ pub(crate) fn is_row(piece: &[u8], at: usize) -> bool
     sum == 0
 }
 
-// Its words, into the frame.
+// The byte above the lowest.
+fn second_byte(n: u64) -> u8
+    ensures { λ r. ⌜ r ≡ n / 0x100 % 0x100 ⌝ }
+{
+    (n / 0x100 % 0x100) as u8
+}
+
+// Its words. Each comes from the number of its group: numbers are taken as vectors, and bytes that stand apart one by one.
+fn words_of(piece: &[u8], at: usize) -> [u8; 16]
+    requires { ⌜ at + 64 ≤ length (now piece) ⌝ }
+    ensures { λ r. ⌜ RowWords (now (piece .entry)) at r ⌝ }
+{
+    let mut words = [0u8; 16];
+    let mut k: usize = 0;
+    while k < ROW {
+        words[k] = second_byte(numbers::four(piece, at + GROUP * k));
+        k += 1;
+    }
+    words
+}
+
+// The words, into the frame.
 pub(crate) fn put_row(piece: &[u8], at: usize, start: usize, frame: &mut [u8; 128])
     requires { ⌜ Row (now piece) at × (start + 16 ≤ lastPlace) ⌝ }
     ensures { λ _. ⌜ Stored (now (piece .entry)) at (at + 64) start (start + 16) (now (frame .entry)) (now (frame .exit)) ⌝ }
 {
+    let words = words_of(piece, at);
     let mut k: usize = 0;
     while k < ROW {
-        frame[start + k] = piece[at + GROUP * k + 1];
+        frame[start + k] = words[k];
         k += 1;
     }
 }

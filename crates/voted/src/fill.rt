@@ -8,14 +8,12 @@ ghost use Rattle.voted.specs.Stretches.{Spaced, Alike};
 use base::format::FILL;
 use base::format::SYNC;
 
-const FOUR_FILL: u64 = 0x32323232;
-
 // Whether four FILL stand here.
 fn are_four(piece: &[u8], at: usize) -> bool
     requires { ⌜ at + 3 < length (now piece) ⌝ }
     ensures { λ r. ⌜ (r ≡ true → FourFill (now (piece .entry)) at) ⌝ }
 {
-    nominal::number(piece[at], piece[at + 1], piece[at + 2], piece[at + 3]) == FOUR_FILL
+    nominal::number(piece[at], piece[at + 1], piece[at + 2], piece[at + 3]) == nominal::FOUR_FILL
 }
 
 // Whether SYNC stands here, and five FILL after the three copies.

@@ -1,6 +1,6 @@
 -- `nominal::row::put_row` meets its contract: one word more at each turn. Assumes nothing.
 use mathlib.Core.Path.{_≡_}
-use Prim.Native.Nat.{_+_, _*_, _-_, _≤_}
+use Prim.Native.Nat.{_+_, _*_, _-_, _≤_, _<_}
 use native.Mathlib.Omega.{arith}
 use denote.Ref.{now}
 use Rattle.nominal.specs.Stretches.{Stored}
@@ -9,38 +9,26 @@ use Rattle.nominal.proofs.row.put_row.Statement.{statement}
 use Rattle.nominal.proofs.row.put_row.Tie as tie
 
 abbrev Inv-loop : tie.InvT-loop
-Inv-loop piece at start frame₀ k₀ frame k = (k ≤ 16) × Stored piece at (at + 4 * k) start (start + k) frame₀ frame
+Inv-loop piece at start frame₀ words k₀ frame k = (k ≤ 16) × Stored piece at (at + 4 * k) start (start + k) frame₀ frame
 
 abbrev μ-loop : tie.MeasureT-loop
-μ-loop piece at start frame₀ k₀ frame k = 16 - k
+μ-loop piece at start frame₀ words k₀ frame k = 16 - k
+
+words-of-requires : tie.Need-words-of-requires Inv-loop μ-loop
+words-of-requires c κs = omega (arith, c .before .pre .0 15 (omega arith) .third .inside)
 
 loop-holds : tie.Need-loop-holds Inv-loop μ-loop
 loop-holds c =
-    let a = c .args in
+    let a = c .before .before .args in
     let none : a .at + 0 ≡ a .at = omega arith in
     let none′ : a .start + 0 ≡ a .start = omega arith in
     (omega arith, rw (none, none′) (stored-none (a .at) (a .start) (now (a .frame))))
 
-mul-frame : tie.Need-mul-frame Inv-loop μ-loop
-mul-frame c = omega arith
+array-read-frame : tie.Need-array-read-frame Inv-loop μ-loop
+array-read-frame c = omega arith
 
 add-frame : tie.Need-add-frame Inv-loop μ-loop
-add-frame c =
-    let turn = c .before in
-    omega (arith, turn .before .pre .0 (turn .loop .k) (omega arith) .third .inside)
-
-add-frame-2 : tie.Need-add-frame-2 Inv-loop μ-loop
-add-frame-2 c =
-    let turn = c .before in
-    omega (arith, turn .before .pre .0 (turn .loop .k) (omega arith) .third .inside)
-
-shared-slice-read-frame : tie.Need-shared-slice-read-frame Inv-loop μ-loop
-shared-slice-read-frame c =
-    let turn = c .before .before in
-    omega (arith, turn .before .pre .0 (turn .loop .k) (omega arith) .third .inside)
-
-add-frame-3 : tie.Need-add-frame-3 Inv-loop μ-loop
-add-frame-3 c = omega arith
+add-frame c = omega arith
 
 element-write-frame : tie.Need-element-write-frame Inv-loop μ-loop
 element-write-frame c = omega arith
@@ -53,11 +41,13 @@ loop-less c = omega arith
 
 loop-again : tie.Need-loop-again Inv-loop μ-loop
 loop-again c =
-    let turn = c .before .before in
-    let s = turn .before in
+    let turn = c .before in
+    let called = turn .before in
+    let s = called .before .before in
     let k = turn .loop .k in
-    let group = s .pre .0 k (omega arith) in
-    (omega arith, stored-group (s .args .at) (s .args .start) k (omega arith) (turn .loop .inv .1) group)
+    let few : k < 16 = omega arith in
+    let more = stored-group (s .args .at) (s .args .start) k (omega arith) (turn .loop .inv .1) (s .pre .0 k few) in
+    (omega arith, rw (called .words-of .ensures .word-is k few) more)
 
 returns : tie.Need-returns Inv-loop μ-loop
 returns c =
@@ -71,12 +61,10 @@ put-row-spec =
     (tie.spec
     Inv-loop
     μ-loop
+    words-of-requires
     loop-holds
-    mul-frame
+    array-read-frame
     add-frame
-    add-frame-2
-    shared-slice-read-frame
-    add-frame-3
     element-write-frame
     add-k
     loop-less
