@@ -277,6 +277,17 @@ fn open_group(l: Layers, piece: &[u8], at: usize) -> Reached
     }
 }
 
+// Whether the group of the last place comes next, as where a frame is nominal.
+fn last_comes(placed: u64, piece: &[u8], at: usize) -> bool {
+    if placed != LAST_PLACE {
+        return false;
+    }
+    if piece.len() <= at {
+        return false;
+    }
+    piece[at] == SYNC
+}
+
 // As far as nothing can close but voted groups before the last place: up to the third copy of any other group, a group that is open already, or
 // the last bytes of the piece.
 pub(crate) fn reach(l: Layers, piece: &[u8], at: usize, frame: &mut [u8; 128]) -> Reached
@@ -288,6 +299,10 @@ pub(crate) fn reach(l: Layers, piece: &[u8], at: usize, frame: &mut [u8; 128]) -
     }
     let nominal = nominal_run(l, piece, at, frame);
     let first = nominal.layers;
+    // Nothing stands before it, and it is left to the plain step: no other stretch is looked for.
+    if last_comes(first.framing.placed, piece, nominal.at) {
+        return open_group(first, piece, nominal.at);
+    }
     let before = quiet_run(first, piece, nominal.at);
     let second = before.layers;
     let voted = any_voted(second, piece, before.at, frame);
