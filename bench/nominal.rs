@@ -162,7 +162,7 @@ fn copy_rows(piece: &[u8], places: &mut [u8]) -> usize {
             break;
         }
         for (place, group) in places.iter_mut().zip(row.chunks_exact(GROUP)) {
-            *place = group[1];
+            *place = (number(group) >> 8) as u8;
         }
         words += ROW;
     }
@@ -184,15 +184,20 @@ fn copy_pairs(piece: &[u8], places: &mut [u8]) -> usize {
 }
 
 #[inline(always)]
+fn number(g: &[u8]) -> u32 {
+    u32::from_le_bytes(g.try_into().unwrap())
+}
+
+#[inline(always)]
 fn is_group(g: &[u8]) -> bool {
-    u32::from_le_bytes(g.try_into().unwrap()) == GROUP_BITS + COPIES * u32::from(g[1])
+    number(g) == GROUP_BITS + COPIES * u32::from(g[1])
 }
 
 // The bits that are wrong in each group, in its SYNC and between neighbouring copies, are joined, so that it is done on whole vectors.
 #[inline(always)]
 fn is_row(row: &[u8]) -> bool {
     let wrong = |g: &[u8]| {
-        let bits = u32::from_le_bytes(g.try_into().unwrap());
+        let bits = number(g);
         ((bits ^ GROUP_BITS) & 0xFF) | ((bits ^ (bits >> 8)) & 0xFF_FF00)
     };
     row.chunks_exact(GROUP).fold(0, |all, g| all | wrong(g)) == 0

@@ -12,6 +12,9 @@ const SPACED_BITS: u64 = u64::from_le_bytes([SYNC, 0, 0, 0, FILL, FILL, FILL, FI
 // So many cells of a block at most.
 const LANES: usize = 64;
 
+// So many lanes are voted on at once.
+const VECTOR: usize = 16;
+
 // Three counts stand side by side in 16 bits each.
 const MOST: usize = 0xFFFF;
 
@@ -75,31 +78,30 @@ fn place_block(run: &mut Run, piece: &[u8], places: &mut [u8]) -> bool {
     if n == 0 {
         return false;
     }
-    let mut words = [0; LANES];
-    let (agreements, split) = vote(&first, &second, &third, &mut words);
+    let lanes = (n + VECTOR - 1) / VECTOR * VECTOR;
+    let (agreements, split) = vote(&mut first[..lanes], &second[..lanes], &third[..lanes]);
     if split != 0 {
         return false;
     }
-    places[run.groups..run.groups + n].copy_from_slice(&words[..n]);
+    places[run.groups..run.groups + n].copy_from_slice(&first[..n]);
     run.last = run.bytes + CELL * (n - 1);
     run.bytes += CELL * n;
     run.groups += n;
     // Lanes with no cell have three equal copies.
-    run.agreements += agreements - (LANES - n) as u64 * side_by_side(1, 1, 1);
+    run.agreements += agreements - (lanes - n) as u64 * side_by_side(1, 1, 1);
     n == LANES
 }
 
-// Votes on each lane, whatever stands in it: how often copies agree, and how many lanes are split.
+// Votes on each lane, whatever stands in it, and puts the word in place of the first copy: how often copies agree, and how many lanes are split.
 #[inline(never)]
-fn vote(first: &[u8; LANES], second: &[u8; LANES], third: &[u8; LANES], words: &mut [u8; LANES]) -> (u64, u8) {
+fn vote(first: &mut [u8], second: &[u8], third: &[u8]) -> (u64, u8) {
     let (mut first_two, mut outer_two, mut last_two, mut split) = (0u8, 0u8, 0u8, 0u8);
-    for k in 0..LANES {
-        let (a, b, c) = (first[k], second[k], third[k]);
-        words[k] = masked(a, b, c);
-        first_two += u8::from(a == b);
-        outer_two += u8::from(a == c);
+    for ((a, &b), &c) in first.iter_mut().zip(second).zip(third) {
+        first_two += u8::from(*a == b);
+        outer_two += u8::from(*a == c);
         last_two += u8::from(b == c);
-        split += u8::from(agreement(a, b, c) == 0);
+        split += u8::from(agreement(*a, b, c) == 0);
+        *a = masked(*a, b, c);
     }
     (side_by_side(first_two, outer_two, last_two), split)
 }
