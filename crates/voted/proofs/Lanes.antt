@@ -1,5 +1,5 @@
 -- Blocks of cells: one lane more, the lanes that hold nothing, and the cells of a block after a run. Assumes nothing.
-use mathlib.Core.Path.{_≡_, refl, sym, ap, _∙_}
+use mathlib.Core.Path.{_≡_, refl, sym, ap, subst, _∙_}
 use mathlib.Core.List.{List, []}
 use Prim.Native.Nat.{ℕ, zero, suc, _+_, _*_, _-_, _≤_, _<_}
 use native.Mathlib.Nat.{add-zero, add-suc}
@@ -56,14 +56,14 @@ unfolding total
 total-few l zero = omega arith
 total-few l (suc n) = omega (arith, total-few l n, agreement-few (lane l n))
 
--- what is left where the lanes that hold nothing are taken off
-module _ (l : Columns) (n : ℕ) (most : n ≤ lanes) (free : (k : ℕ) → n ≤ k → lane l k ≡ copies 0 0 0) where
-  all-total : total agreement l lanes ≡ total agreement l n + 0x100010001 * (lanes - n)
+-- what is left of m lanes where those that hold nothing are taken off
+module _ (l : Columns) (n m : ℕ) (most : n ≤ m) (free : (k : ℕ) → n ≤ k → lane l k ≡ copies 0 0 0) where
+  all-total : total agreement l m ≡ total agreement l n + 0x100010001 * (m - n)
   all-total =
-      let all : n + (lanes - n) ≡ lanes = omega arith in
-      ap (total agreement l) (sym all) ∙ total-free l n free (lanes - n)
+      let all : n + (m - n) ≡ m = omega arith in
+      ap (total agreement l) (sym all) ∙ total-free l n free (m - n)
 
-  pub taken-off : {s : ℕ} → s ≡ total agreement l lanes → (0x100010001 * (lanes - n) ≤ s) × (s - 0x100010001 * (lanes - n) ≡ total agreement l n)
+  pub taken-off : {s : ℕ} → s ≡ total agreement l m → (0x100010001 * (m - n) ≤ s) × (s - 0x100010001 * (m - n) ≡ total agreement l n)
   taken-off e = (omega (arith, all-total), omega (arith, all-total))
 
 -- ---- one cell more is gathered
@@ -79,33 +79,33 @@ zeros-blank =
     record { sized = record { firsts-sized = size; seconds-sized = size; thirds-sized = size }; free = λ k. rw (zeros-at lanes k) }
 
 pub blank-gathered : {p : List ℕ} {i : ℕ} {l : Columns} → Blank l → Gathered p i 0 l
-blank-gathered b = record { spaced = λ k h. absurd (omega arith); held = λ k h. absurd (omega arith); free = λ k h. b .free k }
+blank-gathered b = record { sized = b .sized; spaced = λ k h. absurd (omega arith); held = λ k h. absurd (omega arith); free = λ k h. b .free k }
 
-module _ {a b c : List ℕ} (s : Sized (columns a b c)) (n : ℕ) (x y z : ℕ) where
+module _ {a b c p : List ℕ} {i n : ℕ} (g : Gathered p i n (columns a b c)) (x y z : ℕ) where
   abbrev more : Columns
   more = columns (set a n x) (set b n y) (set c n z)
 
-  pub more-sized : Sized more
+  more-sized : Sized more
   more-sized = record {
-    firsts-sized = length-set a n x ∙ s .firsts-sized;
-    seconds-sized = length-set b n y ∙ s .seconds-sized;
-    thirds-sized = length-set c n z ∙ s .thirds-sized;
+    firsts-sized = length-set a n x ∙ g .sized .firsts-sized;
+    seconds-sized = length-set b n y ∙ g .sized .seconds-sized;
+    thirds-sized = length-set c n z ∙ g .sized .thirds-sized;
   }
 
   more-here : n < lanes → lane more n ≡ copies x y z
   more-here h =
       rw (
-        getD-set-same a n x 0 (omega (arith, s .firsts-sized)),
-        getD-set-same b n y 0 (omega (arith, s .seconds-sized)),
-        getD-set-same c n z 0 (omega (arith, s .thirds-sized)),
+        getD-set-same a n x 0 (omega (arith, g .sized .firsts-sized)),
+        getD-set-same b n y 0 (omega (arith, g .sized .seconds-sized)),
+        getD-set-same c n z 0 (omega (arith, g .sized .thirds-sized)),
       )
 
   more-there : (k : ℕ) → (k ≡ n → ⊥) → lane more k ≡ lane (columns a b c) k
   more-there k h = rw (getD-set-other a n k x 0 h, getD-set-other b n k y 0 h, getD-set-other c n k z 0 h)
 
-  pub more-gathered : {p : List ℕ} {i : ℕ} → Gathered p i n (columns a b c) → n < lanes → Spaced p (i + 9 * n) → copies x y z ≡ copiesAt p (i + 9 * n)
-      → Gathered p i (n + 1) more
-  more-gathered {p} {i} g h there e = record {
+  pub more-gathered : n < lanes → Spaced p (i + 9 * n) → copies x y z ≡ copiesAt p (i + 9 * n) → Gathered p i (n + 1) more
+  more-gathered h there e = record {
+    sized = more-sized;
     spaced = below-more (λ k. Spaced p (i + 9 * k)) n (g .spaced) there;
     held = below-more (λ k. lane more k ≡ copiesAt p (i + 9 * k)) n (λ k l. more-there k (λ q. omega arith) ∙ g .held k l) (more-here h ∙ e);
     free = λ k l. more-there k (λ q. omega arith) ∙ g .free k (omega arith);
@@ -113,9 +113,10 @@ module _ {a b c : List ℕ} (s : Sized (columns a b c)) (n : ℕ) (x y z : ℕ) 
 
 -- ---- one lane more is voted
 
--- the first k lanes: how often copies agree in them, the words, and that no lane is split where none is counted
-pub record Voting (l : Columns) (w : List ℕ) (x y z none k : ℕ) : Type 0 where
-  pub few : k ≤ lanes
+-- the first k of n lanes: how often copies agree in them, and that no lane is split where none is counted. Their words stand in w, and after
+-- them the first copies of the lanes to come
+pub record Voting (l : Columns) (n : ℕ) (w : List ℕ) (x y z none k : ℕ) : Type 0 where
+  pub few : k ≤ n
   pub sized : length w ≡ lanes
   pub x-is : x ≡ total firstTwo l k
   pub y-is : y ≡ total outerTwo l k
@@ -126,9 +127,10 @@ pub record Voting (l : Columns) (w : List ℕ) (x y z none k : ℕ) : Type 0 whe
   pub none-few : none ≤ k
   pub voted : none ≡ 0 → (m : ℕ) → m < k → IsVoted (lane l m)
   pub words-are : (m : ℕ) → m < k → IsVoted (lane l m) → getD w m 0 ≡ wordOf (lane l m)
+  pub firsts-left : (m : ℕ) → k ≤ m → getD w m 0 ≡ getD (l .firsts) m 0
 
-pub voting-none : (l : Columns) {w : List ℕ} → length w ≡ lanes → Voting l w 0 0 0 0 0
-voting-none l e = record {
+pub voting-none : (l : Columns) (n : ℕ) → length (l .firsts) ≡ lanes → Voting l n (l .firsts) 0 0 0 0 0
+voting-none l n e = record {
   few = omega arith;
   sized = e;
   x-is = sym (total-none firstTwo l);
@@ -140,26 +142,35 @@ voting-none l e = record {
   none-few = omega arith;
   voted = λ z m h. absurd (omega arith);
   words-are = λ m h. absurd (omega arith);
+  firsts-left = λ m h. refl;
 }
 
-module _ {l : Columns} {w : List ℕ} {x y z none k : ℕ} (b : Voting l w x y z none k) (h : k < lanes) where
-  pub voting-more : {v x′ y′ z′ d : ℕ} → (IsVoted (lane l k) → v ≡ wordOf (lane l k)) → x′ ≡ firstTwo (lane l k) → y′ ≡ outerTwo (lane l k)
-      → z′ ≡ lastTwo (lane l k) → d ≤ 1 → (d ≡ 0 → IsVoted (lane l k)) → Voting l (set w k v) (x + x′) (y + y′) (z + z′) (none + d) (k + 1)
+module _ {l : Columns} {n : ℕ} {w : List ℕ} {x y z none k : ℕ} (b : Voting l n w x y z none k) (h : k < n) (most : n ≤ lanes) where
+  -- the copies that stand in lane k
+  abbrev here : Copies
+  here = lane (columns w (l .seconds) (l .thirds)) k
+
+  here-is : here ≡ lane l k
+  here-is = rw (b .firsts-left k (omega arith))
+
+  pub voting-more : {v x′ y′ z′ d : ℕ} → (IsVoted here → v ≡ wordOf here) → x′ ≡ firstTwo here → y′ ≡ outerTwo here → z′ ≡ lastTwo here → d ≤ 1
+      → (d ≡ 0 → IsVoted here) → Voting l n (set w k v) (x + x′) (y + y′) (z + z′) (none + d) (k + 1)
   voting-more {v} {x′} {y′} {z′} {d} is ex ey ez few whole = record {
     few = omega arith;
     sized = length-set w k v ∙ b .sized;
-    x-is = omega (arith, ex, b .x-is, total-more firstTwo l k);
-    y-is = omega (arith, ey, b .y-is, total-more outerTwo l k);
-    z-is = omega (arith, ez, b .z-is, total-more lastTwo l k);
-    x-few = omega (arith, ex, b .x-few, one-few (eqb (lane l k .first) (lane l k .second)));
-    y-few = omega (arith, ey, b .y-few, one-few (eqb (lane l k .first) (lane l k .third)));
-    z-few = omega (arith, ez, b .z-few, one-few (eqb (lane l k .second) (lane l k .third)));
+    x-is = omega (arith, ex, ap firstTwo here-is, b .x-is, total-more firstTwo l k);
+    y-is = omega (arith, ey, ap outerTwo here-is, b .y-is, total-more outerTwo l k);
+    z-is = omega (arith, ez, ap lastTwo here-is, b .z-is, total-more lastTwo l k);
+    x-few = omega (arith, ex, b .x-few, one-few (eqb (here .first) (here .second)));
+    y-few = omega (arith, ey, b .y-few, one-few (eqb (here .first) (here .third)));
+    z-few = omega (arith, ez, b .z-few, one-few (eqb (here .second) (here .third)));
     none-few = omega (arith, b .none-few);
-    voted = λ e. below-more (λ m. IsVoted (lane l m)) k (b .voted (omega arith)) (whole (omega arith));
+    voted = λ e. below-more (λ m. IsVoted (lane l m)) k (b .voted (omega arith)) (subst IsVoted here-is (whole (omega arith)));
     words-are =
         below-more (λ m. IsVoted (lane l m) → getD (set w k v) m 0 ≡ wordOf (lane l m)) k
         (λ m n i. getD-set-other w k m v 0 (λ q. omega arith) ∙ b .words-are m n i)
-        (λ i. getD-set-same w k v 0 (omega (arith, b .sized)) ∙ is i);
+        (λ i. getD-set-same w k v 0 (omega (arith, b .sized)) ∙ is (subst IsVoted (sym here-is) i) ∙ ap wordOf here-is);
+    firsts-left = λ m e. getD-set-other w k m v 0 (λ q. omega arith) ∙ b .firsts-left m (omega arith);
   }
 
 -- ---- the words

@@ -38,6 +38,7 @@ pub record Sized (l : Columns) : Type 0 where
 
 -- the first n lanes hold the copies of n cells from i on, and the others hold nothing
 pub record Gathered (p : List ℕ) (i n : ℕ) (l : Columns) : Type 0 where
+  pub sized : Sized l
   pub spaced : (k : ℕ) → k < n → Spaced p (i + 9 * k)
   pub held : (k : ℕ) → k < n → lane l k ≡ copiesAt p (i + 9 * k)
   pub free : (k : ℕ) → n ≤ k → lane l k ≡ copies 0 0 0
@@ -49,11 +50,11 @@ pub record Blank (l : Columns) : Type 0 where
 
 -- ---- voted
 
--- how often copies agree in all lanes, and where no lane is split, the word of each
-pub record Counts (l : Columns) (w : List ℕ) (r : Told) : Type 0 where
-  pub sums-are : r .sums ≡ total agreement l lanes
-  pub voted : r .split ≡ 0 → (k : ℕ) → k < lanes → IsVoted (lane l k)
-  pub words-are : (k : ℕ) → k < lanes → IsVoted (lane l k) → getD w k 0 ≡ wordOf (lane l k)
+-- the first n lanes: how often copies agree in them, and where none is split, the word of each in w
+pub record Counts (l : Columns) (n : ℕ) (w : List ℕ) (r : Told) : Type 0 where
+  pub sums-are : r .sums ≡ total agreement l n
+  pub voted : r .split ≡ 0 → (k : ℕ) → k < n → IsVoted (lane l k)
+  pub words-are : (k : ℕ) → k < n → IsVoted (lane l k) → getD w k 0 ≡ wordOf (lane l k)
 
 -- the frame f with the first n of the words w from place q on
 unfoldable pub copied : List ℕ → ℕ → List ℕ → ℕ → List ℕ

@@ -18,6 +18,9 @@ const LANES: usize = 64;
 
 const CELL: usize = 9;
 
+// Lanes are compared so many at a time: the compiler makes whole vectors of a loop over a multiple of them.
+const VECTOR: usize = 16;
+
 // What the columns tell: how often copies agree, and whether all three differ somewhere, where it is not 0.
 pub(crate) struct Told {
     pub(crate) sums: u64,
@@ -91,21 +94,29 @@ fn split(a: u8, b: u8, c: u8) -> u8
     (votes::agreed(a, b, c) == 0) as u8
 }
 
-// Votes on each lane, whatever stands in it.
-fn vote(first: &[u8; 64], second: &[u8; 64], third: &[u8; 64], words: &mut [u8; 64]) -> Told
-    requires { ⌜ length (now words) ≡ 64 ⌝ }
-    ensures { λ r. ⌜ Counts (columns (now (first .entry)) (now (second .entry)) (now (third .entry))) (now (words .exit)) r ⌝ }
+// The vectors that n lanes fill, the last perhaps in part.
+fn vectors_of(n: usize) -> usize
+    requires { ⌜ n ≤ 64 ⌝ }
+    ensures { λ r. ⌜ (n ≤ 16 * r) × (r ≤ 4) ⌝ }
+{
+    (n + VECTOR - 1) / VECTOR
+}
+
+// Votes on each lane of the vectors, whatever stands in it: its word takes the place of its first copy.
+fn vote(first: &mut [u8; 64], second: &[u8; 64], third: &[u8; 64], vectors: usize) -> Told
+    requires { ⌜ (vectors ≤ 4) × (length (now first) ≡ 64) ⌝ }
+    ensures { λ r. ⌜ Counts (columns (now (first .entry)) (now (second .entry)) (now (third .entry))) (16 * vectors) (now (first .exit)) r ⌝ }
 {
     let mut x: u8 = 0;
     let mut y: u8 = 0;
     let mut z: u8 = 0;
     let mut none: u8 = 0;
     let mut k: usize = 0;
-    while k < LANES {
+    while k < VECTOR * vectors {
         let a = first[k];
         let b = second[k];
         let c = third[k];
-        words[k] = votes::by_masks(a, b, c);
+        first[k] = votes::by_masks(a, b, c);
         x += same(a, b);
         y += same(a, c);
         z += same(b, c);
@@ -130,7 +141,7 @@ fn put(words: &[u8; 64], n: usize, start: usize, frame: &mut [u8; 128])
     }
 }
 
-// A block. It takes nothing where a group of it is split; lanes with no cell count as three equal copies, and are taken off.
+// A block. It takes nothing where a group of it is split; lanes of its vectors with no cell count as three equal copies, and are taken off.
 fn block(piece: &[u8], before: Run, frame: &mut [u8; 128]) -> Run
     requires { ⌜ RunRoom before ⌝ }
     ensures { λ r. ⌜ RunsOn (now (piece .entry)) before (now (frame .entry)) r (now (frame .exit)) × (before .placed ≤ r .placed) ⌝ }
@@ -139,7 +150,6 @@ fn block(piece: &[u8], before: Run, frame: &mut [u8; 128]) -> Run
     let mut first = [0u8; 64];
     let mut second = [0u8; 64];
     let mut third = [0u8; 64];
-    let mut words = [0u8; 64];
     let n = gather(
         piece,
         from,
@@ -151,16 +161,17 @@ fn block(piece: &[u8], before: Run, frame: &mut [u8; 128]) -> Run
     if n == 0 {
         return before;
     }
-    let told = vote(&first, &second, &third, &mut words);
+    let vectors = vectors_of(n);
+    let told = vote(&mut first, &second, &third, vectors);
     if told.split != 0 {
         return before;
     }
-    put(&words, n, before.placed, frame);
+    put(&first, n, before.placed, frame);
     Run {
         at: from + CELL * n,
         placed: before.placed + n,
         last: from + CELL * (n - 1),
-        sums: before.sums + (told.sums - votes::ALIKE * (LANES - n) as u64),
+        sums: before.sums + (told.sums - votes::ALIKE * (VECTOR * vectors - n) as u64),
         stray: before.stray,
     }
 }

@@ -13,7 +13,54 @@ use borrow.Author.Needs.{needs}
 use Rattle.voted.proofs.blocks.block.Statement.{statement}
 use Rattle.voted.proofs.blocks.block.Tie as tie
 
--- what is known where the words are put
+-- what is known where the lanes are voted on
+module _ (c : tie.After-third2) where
+  abbrev counted : tie.After-vectors-of
+  counted = c .before .before .before
+
+  abbrev some : tie.Else1
+  some = counted .before
+
+  abbrev cells : tie.After-gather
+  cells = some .before
+
+  abbrev lent : tie.After-third
+  lent = cells .before
+
+  abbrev most : tie.After-most-cells
+  most = lent .before .before .before
+
+  abbrev start : tie.Start
+  start = most .before .before
+
+  abbrev n : ℕ
+  n = cells .gather .result
+
+  -- the lanes that are voted on
+  abbrev used : ℕ
+  used = 16 * counted .vectors-of .result
+
+  abbrev ls : Columns
+  ls =
+      let after = cells .gather .last .1 .1 .1 in
+      columns (after .0) (after .1 .0) (after .1 .1 .0)
+
+  some-cells : 0 < n
+  some-cells = omega (arith, some .if1 .left)
+
+  few-cells : n ≤ lanes
+  few-cells = omega (arith, cells .gather .ensures .1, most .most-cells .ensures .0)
+
+  enough : n ≤ used
+  enough = counted .vectors-of .ensures .0
+
+  room : start .args .before .placed + n ≤ lastPlace
+  room = omega (arith, cells .gather .ensures .1, most .most-cells .ensures .1, start .pre .room)
+
+  last-inside : start .args .before .at + 9 * (n - 1) + 8 < length (now (start .args .piece))
+  last-inside = cells .gather .ensures .0 .spaced (n - 1) (omega (arith, some-cells)) .fifth .inside
+
+-- and where their words are put
 module _ (c : tie.After-put) where
   abbrev whole : tie.Else2
   whole = c .before .before .before
@@ -21,40 +68,15 @@ module _ (c : tie.After-put) where
   abbrev told : tie.After-vote
   told = whole .before .before
 
-  abbrev some : tie.Else1
-  some = told .before .before .before .before .before
-
-  abbrev cells : tie.After-gather
-  cells = some .before
-
-  abbrev start : tie.Start
-  start = cells .before .before .before .before .before .before
-
-  abbrev n : ℕ
-  n = cells .gather .result
-
-  abbrev ls : Columns
-  ls =
-      let after = cells .gather .last .1 .1 .1 in
-      columns (after .0) (after .1 .0) (after .1 .1 .0)
+  abbrev asked : tie.After-third2
+  asked = told .before
 
   abbrev words : List ℕ
-  words = told .vote .last .1 .1 .1 .0
+  words = told .vote .last .0
 
-  some-cells : 0 < n
-  some-cells = omega (arith, some .if1 .left)
-
-  few-cells : n ≤ lanes
-  few-cells = omega (arith, cells .gather .ensures .1, cells .before .before .before .before .most-cells .ensures .0)
-
-  room : start .args .before .placed + n ≤ lastPlace
-  room = omega (arith, cells .gather .ensures .1, cells .before .before .before .before .most-cells .ensures .1, start .pre .room)
-
-  last-inside : start .args .before .at + 9 * (n - 1) + 8 < length (now (start .args .piece))
-  last-inside = cells .gather .ensures .0 .spaced (n - 1) (omega (arith, some-cells)) .fifth .inside
-
-  off : (0x100010001 * (lanes - n) ≤ told .vote .result .sums) × (told .vote .result .sums - 0x100010001 * (lanes - n) ≡ total agreement ls n)
-  off = taken-off ls n few-cells (cells .gather .ensures .0 .free) (told .vote .ensures .sums-are)
+  off : (0x100010001 * (used asked - n asked) ≤ told .vote .result .sums)
+      × (told .vote .result .sums - 0x100010001 * (used asked - n asked) ≡ total agreement (ls asked) (n asked))
+  off = taken-off (ls asked) (n asked) (used asked) (enough asked) (cells asked .gather .ensures .0 .free) (told .vote .ensures .sums-are)
 
 most-cells-requires : tie.Need-most-cells-requires
 most-cells-requires c κs = search needs
@@ -65,8 +87,11 @@ gather-requires c κs = (omega (arith, c .before .before .before .most-cells .en
 returns : tie.Need-returns
 returns c = search needs
 
+vectors-of-requires : tie.Need-vectors-of-requires
+vectors-of-requires c κs = search needs
+
 vote-requires : tie.Need-vote-requires
-vote-requires c κs = search needs
+vote-requires c κs = (counted c .vectors-of .ensures .1, cells c .gather .ensures .0 .sized .firsts-sized)
 
 returns-2 : tie.Need-returns-2
 returns-2 c = search needs
@@ -77,22 +102,23 @@ put-requires c κs = search needs
 mul-t11 : tie.Need-mul-t11
 mul-t11 c = search needs
 
+add-t22 : tie.Need-add-t22
+add-t22 c = omega (arith, last-inside (asked c), some-cells (asked c))
+
 add-t23 : tie.Need-add-t23
-add-t23 c =
-    let inside = last-inside c in
-    omega (arith, some-cells c)
+add-t23 c = search needs
 
-add-t24 : tie.Need-add-t24
-add-t24 c = search needs
+sub-t24 : tie.Need-sub-t24
+sub-t24 c = search needs
 
-sub-t25 : tie.Need-sub-t25
-sub-t25 c = search needs
+mul-t25 : tie.Need-mul-t25
+mul-t25 c = search needs
 
-mul-t26 : tie.Need-mul-t26
-mul-t26 c = search needs
+add-t26 : tie.Need-add-t26
+add-t26 c = omega (arith, last-inside (asked (c .before)))
 
-add-t27 : tie.Need-add-t27
-add-t27 c = omega (arith, last-inside (c .before))
+mul-t27 : tie.Need-mul-t27
+mul-t27 c = search needs
 
 sub-t28 : tie.Need-sub-t28
 sub-t28 c = search needs
@@ -106,22 +132,24 @@ sub-t31 c = omega (arith, off (c .before .before) .0)
 add-t32 : tie.Need-add-t32
 add-t32 c =
     let p = c .before .before .before in
-    omega (arith, off p .1, total-few (ls p) (n p), few-cells p, start p .pre .few, start p .pre .room)
+    let b = asked p in
+    omega (arith, off p .1, total-few (ls b) (n b), few-cells b, start b .pre .few, start b .pre .room)
 
 returns-3 : tie.Need-returns-3
 returns-3 c =
     let p = c .before .before .before in
+    let b = asked p in
     let v = told p .vote .ensures in
     let voted = v .voted (omega (arith, whole p .if2 .left)) in
-    let few = few-cells p in (
+    let in-use = enough b in (
       record {
-        kept = λ i q f b.
-            block-kept b (words p) (cells p .gather .ensures .0) (λ m h. voted m (omega arith))
-            (λ m h. v .words-are m (omega arith) (voted m (omega arith))) (some-cells p) (omega (arith, off p .1)) (p .put .ensures);
+        kept = λ i q f k.
+            block-kept k {ls = ls b} (words p) (cells b .gather .ensures .0) (λ m h. voted m (omega arith))
+            (λ m h. v .words-are m (omega arith) (voted m (omega arith))) (some-cells b) (omega (arith, off p .1)) (p .put .ensures);
         has-room = record {
-          room = room p;
-          few-stray = omega (arith, start p .pre .few-stray);
-          few = omega (arith, off p .1, total-few (ls p) (n p), start p .pre .few);
+          room = room b;
+          few-stray = omega (arith, start b .pre .few-stray);
+          few = omega (arith, off p .1, total-few (ls b) (n b), start b .pre .few);
         };
       },
       omega arith,
@@ -134,15 +162,17 @@ block-spec =
     most-cells-requires
     gather-requires
     returns
+    vectors-of-requires
     vote-requires
     returns-2
     put-requires
     mul-t11
+    add-t22
     add-t23
-    add-t24
-    sub-t25
-    mul-t26
-    add-t27
+    sub-t24
+    mul-t25
+    add-t26
+    mul-t27
     sub-t28
     mul-t30
     sub-t31

@@ -4,14 +4,14 @@ use Prim.Native.Nat.{_+_, _*_, _-_, _≤_, _<_}
 use native.Mathlib.Omega.{arith}
 use borrow.Author.Tests.{not-false}
 use Rattle.voted.specs.Copies.{copiesAt}
-use Rattle.voted.specs.Lanes.{columns, Sized, Gathered}
-use Rattle.voted.proofs.Lanes.{blank-gathered, more-sized, more-gathered}
+use Rattle.voted.specs.Lanes.{columns, Gathered}
+use Rattle.voted.proofs.Lanes.{blank-gathered, more-gathered}
 use Rattle.voted.proofs.blocks.gather.Statement.{statement}
 use Rattle.voted.proofs.blocks.gather.Tie as tie
 
 abbrev Inv-loop : tie.InvT-loop
 Inv-loop piece from most first₀ second₀ third₀ stop at₀ k₀ first second third at k =
-    (at ≡ from + 9 * k) × (k ≤ most) × Sized (columns first second third) × Gathered piece from k (columns first second third)
+    (at ≡ from + 9 * k) × (k ≤ most) × Gathered piece from k (columns first second third)
 
 abbrev μ-loop : tie.MeasureT-loop
 μ-loop piece from most first₀ second₀ third₀ stop at₀ k₀ first second third at k = stop - at
@@ -20,9 +20,7 @@ stop-of-requires : tie.Need-stop-of-requires Inv-loop μ-loop
 stop-of-requires c κs = omega arith
 
 loop-holds : tie.Need-loop-holds Inv-loop μ-loop
-loop-holds c =
-    let blank = c .before .before .pre .1 in
-    (omega arith, omega arith, blank .sized, blank-gathered blank)
+loop-holds c = (omega arith, omega arith, blank-gathered (c .before .before .pre .1))
 
 is-spaced-requires : tie.Need-is-spaced-requires Inv-loop μ-loop
 is-spaced-requires c κs = omega arith
@@ -30,7 +28,7 @@ is-spaced-requires c κs = omega arith
 returns : tie.Need-returns Inv-loop μ-loop
 returns c =
     let l = c .before .before .before .loop in
-    (l .inv .3, l .inv .1)
+    (l .inv .2, l .inv .1)
 
 add-first : tie.Need-add-first Inv-loop μ-loop
 add-first c = omega arith
@@ -78,13 +76,12 @@ loop-again c =
     let cell = spaced .is-spaced .ensures (not-false _ (tested .if1 .left)) in
     let at = l .inv .0 in
     let few : l .k < 64 = omega arith in
-    let more = more-gathered (l .inv .2) (l .k) _ _ _ (l .inv .3) few (rw at at cell) (ap (copiesAt p) at) in
-    (omega arith, omega arith, more-sized (l .inv .2) (l .k) _ _ _, more)
+    (omega arith, omega arith, more-gathered (l .inv .2) _ _ _ few (rw at at cell) (ap (copiesAt p) at))
 
 returns-2 : tie.Need-returns-2 Inv-loop μ-loop
 returns-2 c =
     let l = c .before .loop in
-    (l .inv .3, l .inv .1)
+    (l .inv .2, l .inv .1)
 
 pub gather-spec : {M : Type 1} → statement M
 gather-spec =
