@@ -17,9 +17,9 @@ use Rattle.nominal.proofs.Joining.{nominal-join, four-fill, one-fill}
 use Rattle.voted.specs.declared.hunting.Hunt.{Hunt}
 use Rattle.voted.specs.declared.placing.Run.{Run}
 use Rattle.voted.specs.Copies.{Copies, copies, copiesAt, IsVoted, wordOf, words, weakIn, lastOr, agreement, agreements, Summed}
-use Rattle.voted.specs.Stretches.{Group, Spaced, Decided, ends, fill, stray, group, LastAt, Stops, Kept, Longest, noGroup, Placed}
-use Rattle.voted.specs.Stretches.{mostGroups, LeftTo, Sought, nonePassed, Hunted}
-use Rattle.voted.proofs.Agreeing.{agreement-few, split-of, alike, summed-of}
+use Rattle.voted.specs.Stretches.{Group, Spaced, Alike, Decided, ends, fill, stray, group, LastAt, Stops, Kept, RunsOn, Longest, noGroup, Placed}
+use Rattle.voted.specs.Stretches.{mostGroups, LeftTo, Going, Sought, nonePassed, Hunted}
+use Rattle.voted.proofs.Agreeing.{agreement-few, split-of, voted-of, alike-agreement, alike-word, alike, summed-of}
 
 -- ---- voted stretches
 
@@ -131,6 +131,9 @@ module _ {p : List ℕ} where
       last-at = λ d h. rw (last-last (b .groups) g d) there;
     }
 
+pub runs-join : {p : List ℕ} {r r′ r″ : Run} {f f′ f″ : List ℕ} → RunsOn p r f r′ f′ → RunsOn p r′ f′ r″ f″ → RunsOn p r f r″ f″
+runs-join a b = record { kept = λ i q f k. b .kept i q f (a .kept i q f k); has-room = b .has-room }
+
 -- ---- where a voted stretch stops
 
 module _ {p : List ℕ} {j : ℕ} {Left : Copies → Type 0} where
@@ -211,18 +214,6 @@ module _ {p : List ℕ} {i q : ℕ} {f : List ℕ} {r : Run} {f′ : List ℕ} (
 abbrev pub hunt : ℕ → ℕ → ℕ → ℕ → ℕ → Hunt
 hunt at count last sums n = record { at = at; count = count; last = last; sums = sums; stray = n }
 
--- the run so far, which may go on
-pub record Going (p : List ℕ) (i : ℕ) (r : Hunt) : Type 0 where
-  pub groups : List Copies
-  pub stretch : Decided p i (r .at) (r .stray) groups
-  pub none-begins : NoneBegins (words groups)
-  pub count-is : r .count ≡ length groups
-  pub most : r .count ≤ mostGroups
-  pub few : r .sums ≤ 0x100010001 * r .count
-  pub few-stray : r .stray ≤ r .at
-  pub sums-are : r .sums ≡ agreements groups
-  pub last-at : LastAt p groups (r .last)
-
 none-last : (gs : List Copies) (g : Copies) → NoneBegins (words gs) → (wordOf g ≡ syncWord 0 → ⊥) → NoneBegins (words (gs ++ g ∷ []))
 none-last [] g n h = other h none
 none-last (x ∷ gs) g (other z n) h = other z (none-last gs g n h)
@@ -270,25 +261,40 @@ module _ {p : List ℕ} where
     }
 
     pub sought : Stops p j (LeftTo k) → Sought p i (hunt j k l s n)
-    sought stops = record {
-      groups = b .groups;
-      stretch = b .stretch;
-      none-begins = b .none-begins;
-      count-is = b .count-is;
-      most = b .most;
-      sums-are = b .sums-are;
-      last-at = b .last-at;
-      stops = stops;
-    }
+    sought stops = record { going = b; stops = stops }
 
   -- the word is FA
   pub stops-first : {j w v : ℕ} → getD p j 0 ≡ SYNC → v ≡ wordOf (copiesAt p j) → v ≡ syncWord 0 → Stops p j (LeftTo w)
   stops-first sync e f h = (record { inside = omega arith; is = sync }, λ g s v few. rw (copies-there s) (sym e ∙ f))
 
+-- ---- one cell of three equal copies more
+
+module _ {p : List ℕ} {j : ℕ} (cell : Alike p j) where
+  cell-group : Group p j (copiesAt p j)
+  cell-group = group-at (cell .spaced .sync) (omega (arith, cell .spaced .fifth .inside))
+
+  cell-agrees : 0x100010001 ≡ agreement (copiesAt p j)
+  cell-agrees = alike-agreement _ _ _ (cell .second) (cell .third)
+
+  cell-word : getD p (j + 1) 0 ≡ wordOf (copiesAt p j)
+  cell-word = alike-word _ _ _ (cell .second) (cell .third)
+
+  cell-voted : IsVoted (copiesAt p j)
+  cell-voted = voted-of (copiesAt p j) (λ e. omega (arith, cell-agrees, e))
+
+  pub kept-cell : {i q k l s n : ℕ} {f f′ : List ℕ} → Kept p i q f (run j k l s n) f′
+      → Kept p i q f (run (j + 9) (k + 1) j (s + 0x100010001) n) (set f′ k (getD p (j + 1) 0))
+  kept-cell {n = n} b = rw (add-zero n) at (kept-group b cell-group cell-voted (cell-fill (cell .spaced)) cell-word cell-agrees)
+
+  pub going-cell : {i k l s n : ℕ} → k < mostGroups → (getD p (j + 1) 0 ≡ syncWord 0 → ⊥) → Going p i (hunt j k l s n)
+      → Going p i (hunt (j + 9) (k + 1) j (s + 0x100010001) n)
+  going-cell {n = n} few unlike b =
+      rw (add-zero n) at (going-on b few cell-group cell-voted (λ e. unlike (cell-word ∙ e)) (cell-fill (cell .spaced)) cell-agrees)
+
 module _ {p : List ℕ} {i : ℕ} {r : Hunt} (s : Sought p i r) where
   -- no group
   pub hunted-empty : r .count ≡ 0 → Hunted p i (nonePassed (r .at) (r .stray))
-  hunted-empty e = go (s .groups) (omega (arith, s .count-is)) (s .stretch)
+  hunted-empty e = go (s .going .groups) (omega (arith, s .going .count-is)) (s .going .stretch)
     where
       go : (gs : List Copies) → length gs ≡ 0 → Decided p i (r .at) (r .stray) gs → Hunted p i (nonePassed (r .at) (r .stray))
       go [] z n = record {
@@ -303,15 +309,15 @@ module _ {p : List ℕ} {i : ℕ} {r : Hunt} (s : Sought p i r) where
       }
       go (g ∷ gs) z n = absurd (omega arith)
 
-  pub hunt-summed : Summed (r .sums) (r .count) (weakIn (s .groups)) (alike (s .groups))
-  hunt-summed = rw (s .sums-are, s .count-is) (summed-of (s .stretch) (omega (arith, s .count-is, s .most)))
+  pub hunt-summed : Summed (r .sums) (r .count) (weakIn (s .going .groups)) (alike (s .going .groups))
+  hunt-summed = rw (s .going .sums-are, s .going .count-is) (summed-of (s .going .stretch) (omega (arith, s .going .count-is, s .going .most)))
 
   -- some
   module _ (some : r .count ≡ 0 → ⊥) where
     pub hunt-inside : r .last + 3 < length p
-    hunt-inside = s .last-at (copies 0 0 0) (omega (arith, s .count-is, some)) .third .inside
+    hunt-inside = s .going .last-at (copies 0 0 0) (omega (arith, s .going .count-is, some)) .third .inside
 
-    pub hunted-some : {w : Weak} → w ≡ weakIn (s .groups)
+    pub hunted-some : {w : Weak} → w ≡ weakIn (s .going .groups)
         → Hunted p i record {
           at = r .at;
           count = r .count;
@@ -321,12 +327,12 @@ module _ {p : List ℕ} {i : ℕ} {r : Hunt} (s : Sought p i r) where
           stray = r .stray;
         }
     hunted-some e = record {
-      groups = s .groups;
-      stretch = s .stretch;
-      none-begins = s .none-begins;
-      count-is = s .count-is;
+      groups = s .going .groups;
+      stretch = s .going .stretch;
+      none-begins = s .going .none-begins;
+      count-is = s .going .count-is;
       weak-is = e;
-      first-is = λ d h. s .last-at d h .first .is;
-      second-is = λ d h. s .last-at d h .second .is;
+      first-is = λ d h. s .going .last-at d h .first .is;
+      second-is = λ d h. s .going .last-at d h .second .is;
       stops = s .stops;
     }

@@ -121,15 +121,25 @@ mostGroups = 0xffff
 abbrev pub LeftTo : ℕ → Copies → Type 0
 LeftTo w g = w < mostGroups → wordOf g ≡ syncWord 0
 
--- in a loop: a voted stretch from i with no word FA, and what the run r tells of it; from there it cannot go on
-pub record Sought (p : List ℕ) (i : ℕ) (r : Hunt) : Type 0 where
+-- in a loop: a voted stretch from i with no word FA, and what the run r tells of it; it may go on
+pub record Going (p : List ℕ) (i : ℕ) (r : Hunt) : Type 0 where
   pub groups : List Copies
   pub stretch : Decided p i (r .at) (r .stray) groups
   pub none-begins : NoneBegins (words groups)
   pub count-is : r .count ≡ length groups
   pub most : r .count ≤ mostGroups
+  pub few : r .sums ≤ 0x100010001 * r .count
+  pub few-stray : r .stray ≤ r .at
   pub sums-are : r .sums ≡ agreements groups
   pub last-at : LastAt p groups (r .last)
+
+-- such a stretch from anywhere that leads to r leads on to r′
+abbrev pub SeeksOn : List ℕ → Hunt → Hunt → Type 0
+SeeksOn p r r′ = (i : ℕ) → Going p i r → Going p i r′
+
+-- the same, and from there it cannot go on
+pub record Sought (p : List ℕ) (i : ℕ) (r : Hunt) : Type 0 where
+  pub going : Going p i r
   pub stops : Stops p (r .at) (LeftTo (r .count))
 
 -- what is told of a stretch with no group

@@ -1,6 +1,8 @@
 // Voted groups while the sync is hunted with nothing matched: words other than FA change nothing but counts.
 ghost use mathlib.Core.Path.{_≡_};
-ghost use Rattle.voted.specs.Stretches.{Sought, nonePassed, Hunted};
+ghost use Prim.Native.Nat.{_*_, _≤_};
+ghost use Rattle.voted.specs.Stretches.{SeeksOn, Sought, nonePassed, Hunted};
+use crate::fill;
 use crate::votes;
 use base::format::SYNC;
 use base::format::SYNC_WORD_0;
@@ -26,6 +28,28 @@ pub(crate) struct Hunt {
     pub(crate) last: usize,
     pub(crate) sums: u64,
     pub(crate) stray: u64,
+}
+
+// Cells of three equal copies, as many as follow, as far as a word FA.
+fn alike(piece: &[u8], before: Hunt) -> Hunt
+    requires { ⌜ before .sums ≤ 0x100010001 * before .count ⌝ }
+    ensures { λ r. ⌜ SeeksOn (now (piece .entry)) before r × (before .at ≤ r .at) ⌝ }
+{
+    let mut next = before;
+    while next.count < MOST {
+        let at = next.at;
+        if !fill::is_cell(piece, at) {
+            return next;
+        }
+        if piece[at + 1] == SYNC_WORD_0 {
+            return next;
+        }
+        next.at = at + 9;
+        next.count += 1;
+        next.last = at;
+        next.sums += votes::ALIKE;
+    }
+    next
 }
 
 // Groups with any bytes but SYNC before and after each, as far as a word FA.
@@ -57,13 +81,14 @@ fn other_groups(piece: &[u8], from: usize) -> Hunt
             if seen.word == SYNC_WORD_0 {
                 return next;
             }
-            next = Hunt {
+            let more = Hunt {
                 at: seen.at,
                 count: next.count + 1,
                 last: at,
                 sums: next.sums + seen.agree,
                 stray: next.stray + seen.stray,
             };
+            next = alike(piece, more);
         }
     }
     next

@@ -1,8 +1,9 @@
 // Voted groups while words are placed, as far as the last place.
 ghost use Prim.Native.Nat.{_≤_};
 ghost use mathlib.Core.Path.{_≡_};
-ghost use Rattle.voted.specs.Stretches.{RunRoom, RunsOut, Longest, noGroup, Placed};
+ghost use Rattle.voted.specs.Stretches.{RunRoom, RunsOn, RunsOut, Longest, noGroup, Placed};
 use crate::blocks;
+use crate::fill;
 use crate::votes;
 use base::format::MINOR_FRAME;
 use base::format::SYNC;
@@ -31,6 +32,27 @@ pub(crate) struct Run {
     pub(crate) stray: u64,
 }
 
+// Cells of three equal copies, as many as follow: most cells between bad bytes are such.
+fn alike(piece: &[u8], before: Run, frame: &mut [u8; 128]) -> Run
+    requires { ⌜ RunRoom before ⌝ }
+    ensures { λ r. ⌜ RunsOn (now (piece .entry)) before (now (frame .entry)) r (now (frame .exit)) × (before .at ≤ r .at) ⌝ }
+{
+    let mut next = before;
+    while next.placed < LAST_PLACE {
+        let at = next.at;
+        let p = next.placed;
+        if !fill::is_cell(piece, at) {
+            return next;
+        }
+        frame[p] = piece[at + 1];
+        next.at = at + 9;
+        next.placed = p + 1;
+        next.last = at;
+        next.sums += votes::ALIKE;
+    }
+    next
+}
+
 // Groups with any bytes but SYNC before and after each: all that is left of the stretch.
 fn groups(piece: &[u8], before: Run, frame: &mut [u8; 128]) -> Run
     requires { ⌜ RunRoom before ⌝ }
@@ -54,13 +76,14 @@ fn groups(piece: &[u8], before: Run, frame: &mut [u8; 128]) -> Run
                 return next;
             }
             frame[p] = seen.word;
-            next = Run {
+            let more = Run {
                 at: seen.at,
                 placed: p + 1,
                 last: at,
                 sums: next.sums + seen.agree,
                 stray: next.stray + seen.stray,
             };
+            next = alike(piece, more, frame);
         }
     }
     next

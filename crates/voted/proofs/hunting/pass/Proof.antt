@@ -21,7 +21,7 @@ returns c =
 weak-of-requires : tie.Need-weak-of-requires
 weak-of-requires c κs =
     let sought = c .before .before .other-groups .ensures in
-    let gs = sought .groups in
+    let gs = sought .going .groups in
     record { weak = weakIn gs; all = alike gs; summed = hunt-summed sought }
 
 add-t7 : tie.Need-add-t7

@@ -1,16 +1,19 @@
 -- `voted::placing::groups` meets its contract: the run so far is kept, past what is no SYNC, or by one group, at each turn; it ends where the last
 -- place comes next, where all copies differ, or where no whole group is left. Assumes nothing.
 use mathlib.Core.Path.{sym, _∙_}
-use Prim.Native.Nat.{_-_}
+use mathlib.Core.List.{List}
+use Prim.Native.Nat.{ℕ, _+_, _-_, _≤_}
 use native.Mathlib.Omega.{arith}
-use lib.ListN.{length}
+use lib.ListN.{length, set}
+use denote.Ref.{now}
 use Rattle.base.specs.Format.{SYNC}
 use Rattle.quiet.specs.Quiet.{Byte}
 use Rattle.quiet.proofs.Joining.{quiet-far}
 use Rattle.voted.specs.Copies.{copiesAt, IsVoted}
-use Rattle.voted.specs.Stretches.{RunsOn}
+use Rattle.voted.specs.declared.placing.Run.{Run}
+use Rattle.voted.specs.Stretches.{Group, RunsOn}
 use Rattle.voted.proofs.Agreeing.{agreement-few, voted-of}
-use Rattle.voted.proofs.Joining.{decided-far, decided-inside, past-quiet, past-moves, group-at, kept-quiet, kept-group}
+use Rattle.voted.proofs.Joining.{run, decided-far, past-quiet, past-moves, group-at, kept-quiet, kept-group, runs-join}
 use Rattle.voted.proofs.Joining.{stops-short, stops-split, stops-left}
 use borrow.Author.Needs.{needs}
 use Rattle.voted.proofs.placing.groups.Statement.{statement}
@@ -30,6 +33,50 @@ module _ (c : tie.Else4 Inv-loop μ-loop) where
   abbrev sync : tie.Else2 Inv-loop μ-loop
   sync = seen .before .before
 
+  abbrev turn : tie.At-loop Inv-loop μ-loop
+  turn = sync .before .before .before .before
+
+  abbrev piece : List ℕ
+  piece = now (turn .before .before .before .args .piece)
+
+  abbrev at : ℕ
+  at = turn .loop .next .at
+
+  here : Group piece at (copiesAt piece at)
+  here = group-at record { inside = omega arith; is = sync .if2 .left } (omega arith)
+
+  voted : IsVoted (copiesAt piece at)
+  voted = voted-of (copiesAt piece at) (λ e. c .if4 .left (seen .see .ensures .agree-is ∙ e))
+
+  -- the run with this group
+  abbrev more : Run
+  more =
+      let told = seen .see .result in
+      let next = turn .loop .next in
+      run (told .at) (next .placed + 1) at (next .sums + told .agree) (next .stray + told .stray)
+
+  one-more : RunsOn piece (turn .before .before .before .args .before) (now (turn .before .before .before .args .frame)) more
+      (set (turn .loop .frame) (turn .loop .next .placed) (seen .see .result .word))
+  one-more =
+      let went = turn .loop .inv in
+      let room = went .has-room in
+      let told = seen .see .ensures in
+      record {
+        kept = λ i q f b. kept-group (went .kept i q f b) here voted (told .between) (told .word-is voted) (told .agree-is);
+        has-room = record {
+          room = omega (arith, seen .before .if3 .left);
+          few-stray = omega (arith, decided-far (told .between), room .few-stray);
+          few = omega (arith, told .agree-is, agreement-few (copiesAt piece at), room .few);
+        };
+      }
+
+-- a turn in which what is no SYNC is skipped
+module _ (c : tie.After-skip Inv-loop μ-loop) where
+  abbrev skipping : tie.At-loop Inv-loop μ-loop
+  skipping =
+      let tested = c .before .before in
+      tested .before .before .before
+
 starts-requires : tie.Need-starts-requires Inv-loop μ-loop
 starts-requires c κs = omega arith
 
@@ -45,7 +92,7 @@ skip-requires c κs = search needs
 add-next : tie.Need-add-next Inv-loop μ-loop
 add-next c =
     let skipped = c .before .before in
-    let turn = skipped .before .before .before .before .before in
+    let turn = skipping skipped in
     omega (arith, quiet-far (skipped .skip .ensures .quiet), turn .loop .inv .has-room .few-stray)
 
 loop-less : tie.Need-loop-less Inv-loop μ-loop
@@ -57,7 +104,7 @@ loop-less c =
 loop-again : tie.Need-loop-again Inv-loop μ-loop
 loop-again c =
     let skipped = c .before .before in
-    let turn = skipped .before .before .before .before .before in
+    let turn = skipping skipped in
     let went = turn .loop .inv in
     let quiet = skipped .skip .ensures .quiet in
     record {
@@ -88,48 +135,36 @@ returns-2 c =
 element-write-frame : tie.Need-element-write-frame Inv-loop μ-loop
 element-write-frame c = omega arith
 
-add-t16 : tie.Need-add-t16 Inv-loop μ-loop
-add-t16 c = omega arith
-
 add-t17 : tie.Need-add-t17 Inv-loop μ-loop
-add-t17 c =
-    let some = c .before .before in
-    let turn = sync some .before .before .before .before in
-    let g = copiesAt (turn .before .before .before .args .piece .now) (turn .loop .next .at) in
-    let room = turn .loop .inv .has-room in
-    omega (arith, seen some .see .ensures .agree-is, agreement-few g, room .few, room .room)
+add-t17 c = omega arith
 
 add-t18 : tie.Need-add-t18 Inv-loop μ-loop
 add-t18 c =
+    let some = c .before .before in
+    let room = turn some .loop .inv .has-room in
+    omega (arith, seen some .see .ensures .agree-is, agreement-few (copiesAt (piece some) (at some)), room .few, room .room)
+
+add-t19 : tie.Need-add-t19 Inv-loop μ-loop
+add-t19 c =
     let some = c .before .before .before .before in
-    let turn = sync some .before .before .before .before in
-    omega (arith, decided-far (seen some .see .ensures .between), turn .loop .inv .has-room .few-stray)
+    omega (arith, decided-far (seen some .see .ensures .between), turn some .loop .inv .has-room .few-stray)
+
+alike-requires : tie.Need-alike-requires Inv-loop μ-loop
+alike-requires c κs =
+    let made = c .before .before in
+    one-more (made .before .before .before) .has-room
 
 loop-less-2 : tie.Need-loop-less-2 Inv-loop μ-loop
 loop-less-2 c =
-    let between = seen (c .before .before .before .before) .see .ensures .between in
-    omega (arith, decided-far between, decided-inside between (omega arith))
+    let made = c .before .before .before in
+    let some = made .before .before .before in
+    let forth : more some .at ≤ c .alike .result .at = c .alike .ensures .1 in
+    omega (arith, here some .third .inside, decided-far (seen some .see .ensures .between), forth)
 
 loop-again-2 : tie.Need-loop-again-2 Inv-loop μ-loop
 loop-again-2 c =
-    let some = c .before .before .before .before in
-    let turn = sync some .before .before .before .before in
-    let went = turn .loop .inv in
-    let room = went .has-room in
-    let at = turn .loop .next .at in
-    let p = turn .before .before .before .args .piece .now in
-    let g = copiesAt p at in
-    let told = seen some .see .ensures in
-    let voted : IsVoted g = voted-of g (λ e. some .if4 .left (told .agree-is ∙ e)) in
-    let here : Byte p at SYNC = record { inside = omega arith; is = sync some .if2 .left } in
-    record {
-      kept = λ i q f b. kept-group (went .kept i q f b) (group-at here (omega arith)) voted (told .between) (told .word-is voted) (told .agree-is);
-      has-room = record {
-        room = omega (arith, seen some .before .if3 .left);
-        few-stray = omega (arith, decided-far (told .between), room .few-stray);
-        few = omega (arith, told .agree-is, agreement-few g, room .few);
-      };
-    }
+    let made = c .before .before .before in
+    runs-join (one-more (made .before .before .before)) (c .alike .ensures .0)
 
 returns-3 : tie.Need-returns-3 Inv-loop μ-loop
 returns-3 c =
@@ -153,9 +188,10 @@ groups-spec =
     see-requires
     returns-2
     element-write-frame
-    add-t16
     add-t17
     add-t18
+    add-t19
+    alike-requires
     loop-less-2
     loop-again-2
     returns-3)
