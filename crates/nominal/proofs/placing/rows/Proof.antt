@@ -1,25 +1,16 @@
 -- `nominal::placing::rows` meets its contract: the rows so far are stored, and one more at each turn. The position
 -- and the place go up together, so that one bound serves for both. Assumes nothing.
-use mathlib.Core.Path.{_≡_}
-use mathlib.Core.List.{List}
-use Prim.Native.Nat.{ℕ, _+_, _*_, _-_}
+use Prim.Native.Nat.{_+_, _-_}
 use native.Mathlib.Omega.{arith}
 use denote.Ref.{now}
 use borrow.Author.Tests.{not-false}
-use Rattle.nominal.specs.Stretches.{Stored}
 use Rattle.nominal.proofs.Joining.{stored-none, stored-join}
+use Rattle.nominal.proofs.Rows.{Rowed}
 use Rattle.nominal.proofs.placing.rows.Statement.{statement}
 use Rattle.nominal.proofs.placing.rows.Tie as tie
 
--- so many turns, and what they have stored
-record Rowed (piece : List ℕ) (from start : ℕ) (frame₀ frame : List ℕ) (at p : ℕ) : Type 0 where
-  turns : ℕ
-  at-is : at ≡ from + 64 * turns
-  place-is : p ≡ start + 16 * turns
-  stored : Stored piece from at start p frame₀ frame
-
 abbrev Inv-loop : tie.InvT-loop
-Inv-loop piece from start frame₀ stop at₀ p₀ frame at p = Rowed piece from start frame₀ frame at p
+Inv-loop piece from start frame₀ stop at₀ p₀ frame at p = Rowed 64 piece from at start p frame₀ frame
 
 abbrev μ-loop : tie.MeasureT-loop
 μ-loop piece from start frame₀ stop at₀ p₀ frame at p = stop - at
@@ -64,7 +55,8 @@ loop-less c = omega arith
 
 loop-again : tie.Need-loop-again Inv-loop μ-loop
 loop-again c =
-    let k = c .before .before .before .before .before .loop in
+    let asked = c .before .before .before in
+    let k = asked .before .before .loop in
     record {
       turns = k .inv .turns + 1;
       at-is = omega arith;

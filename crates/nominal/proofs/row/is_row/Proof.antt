@@ -4,12 +4,13 @@ use Prim.Native.Nat.{_-_, _≤_}
 use native.Mathlib.Omega.{arith}
 use denote.Ref.{now}
 use borrow.Author.Tests.{eqb-true}
+use Rattle.nominal.specs.Stretches.{Belongs}
 use Rattle.nominal.proofs.Rows.{Belong, belong-more, row-of}
 use Rattle.nominal.proofs.row.is_row.Statement.{statement}
 use Rattle.nominal.proofs.row.is_row.Tie as tie
 
 abbrev Inv-loop : tie.InvT-loop
-Inv-loop piece at sum₀ k₀ sum k = (k ≤ 64) × (sum ≤ k) × (sum ≡ 0 → Belong piece at k)
+Inv-loop piece at sum₀ k₀ sum k = (k ≤ 64) × (sum ≤ k) × (sum ≡ 0 → Belong Belongs 4 piece at k)
 
 abbrev μ-loop : tie.MeasureT-loop
 μ-loop piece at sum₀ k₀ sum k = 64 - k
@@ -49,7 +50,7 @@ loop-again c =
     let turn = c .before .before .before .before in
     let s = turn .before .before in
     let so-far = turn .loop .inv .2 in
-    let more = belong-more (now (s .args .piece)) (s .args .at) (turn .loop .k) in
+    let more = belong-more Belongs 4 (now (s .args .piece)) (s .args .at) (turn .loop .k) in
     (omega arith, omega arith, λ e. more (so-far (omega arith)) (c .wrong .ensures .1 (omega arith)))
 
 returns : tie.Need-returns Inv-loop μ-loop

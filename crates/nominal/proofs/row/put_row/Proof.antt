@@ -4,7 +4,7 @@ use Prim.Native.Nat.{_+_, _*_, _-_, _≤_, _<_}
 use native.Mathlib.Omega.{arith}
 use denote.Ref.{now}
 use Rattle.nominal.specs.Stretches.{Stored}
-use Rattle.nominal.proofs.Joining.{stored-none, stored-group}
+use Rattle.nominal.proofs.Joining.{one-group, stored-none, stored-more}
 use Rattle.nominal.proofs.row.put_row.Statement.{statement}
 use Rattle.nominal.proofs.row.put_row.Tie as tie
 
@@ -46,7 +46,7 @@ loop-again c =
     let s = called .before .before in
     let k = turn .loop .k in
     let few : k < 16 = omega arith in
-    let more = stored-group (s .args .at) (s .args .start) k (omega arith) (turn .loop .inv .1) (s .pre .0 k few) in
+    let more = stored-more 4 (s .args .at) (s .args .start) k (omega arith) (turn .loop .inv .1) (one-group (s .pre .0 k few)) in
     (omega arith, rw (called .words-of .ensures .word-is k few) more)
 
 returns : tie.Need-returns Inv-loop μ-loop
