@@ -5,6 +5,7 @@ use mathlib.Core.List.{List}
 use Prim.Native.Nat.{ℕ, _+_, _*_, _%_, _≤_, _<_}
 use native.Mathlib.Omega.{arith}
 use mir.Val.{boolByte}
+use lib.Bits.{bitOr, or-add-and, and-le-l, and-le-r}
 use lib.Dec.{eqb, ltb}
 use lib.ListN.{length, getD, set}
 use lib.Seq.{getD-set-same, getD-set-other}
@@ -16,9 +17,9 @@ use Rattle.nominal.specs.Stretches.{Group, Belongs, Row, Usual, InCell, 
 
 -- ---- tests
 
-pub bit-few : (b : Bool) → boolByte b ≤ 1
-bit-few true = omega arith
-bit-few false = omega arith
+-- bits joined are none where there are none
+pub or-none : (a b : ℕ) → bitOr a b ≡ 0 → (a ≡ 0) × (b ≡ 0)
+or-none a b e = (omega (arith, or-add-and a b, and-le-r a b, e), omega (arith, or-add-and a b, and-le-l a b, e))
 
 bit-none : (b : Bool) → boolByte b ≡ 0 → b ≡ false
 bit-none true e = absurd (omega arith)
@@ -65,9 +66,6 @@ belongs place x y e =
 -- the same in a cell: r is looked for at place 0 and after place n
 abbrev isWrongInCell : ℕ → ℕ → ℕ → ℕ → ℕ → Bool
 isWrongInCell n place x y r = other (eqb place 0 || ltb n place) x r || other (eqb place 1 || eqb place 2) x y
-
-pub in-cell-few : (n place x y r : ℕ) → boolByte (isWrongInCell n place x y r) ≤ 1
-in-cell-few n place x y r = bit-few (isWrongInCell n place x y r)
 
 pub in-cell : (n place x y r : ℕ) → boolByte (isWrongInCell n place x y r) ≡ 0 → n ≤ 3 → Usual place r → InCell place x y
 in-cell n place x y r e few u =

@@ -24,7 +24,7 @@ fn usual(place: usize) -> u8
 
 // 0 where byte x, with y after it, belongs at this place of a cell.
 fn wrong(place: usize, x: u8, y: u8) -> u8
-    ensures { λ r. ⌜ (r ≤ 1) × (r ≡ 0 → InCell place x y) ⌝ }
+    ensures { λ r. ⌜ (r ≡ 0 → InCell place x y) ⌝ }
 {
     ((((place == 0) | (3 < place)) & (x != usual(place)))
         | (((place == 1) | (place == 2)) & (x != y))) as u8
@@ -35,13 +35,13 @@ pub(crate) fn are_cells(piece: &[u8], at: usize) -> bool
     requires { ⌜ at + 144 < length (now piece) ⌝ }
     ensures { λ r. ⌜ (r ≡ true → CellRow (now (piece .entry)) at) ⌝ }
 {
-    let mut sum: u8 = 0;
+    let mut bad: u8 = 0;
     let mut k: usize = 0;
     while k < CELLS_BYTES {
-        sum += wrong(k % CELL, piece[at + k], piece[at + k + 1]);
+        bad = bad | wrong(k % CELL, piece[at + k], piece[at + k + 1]);
         k += 1;
     }
-    sum == 0
+    bad == 0
 }
 
 // Their words, into the frame.

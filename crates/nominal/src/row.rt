@@ -16,7 +16,7 @@ pub(crate) const ROW_BYTES: usize = GROUP * ROW;
 
 // 0 where byte x, with y after it, belongs at this place of a group.
 fn wrong(place: usize, x: u8, y: u8) -> u8
-    ensures { λ r. ⌜ (r ≤ 1) × (r ≡ 0 → Belongs place x y) ⌝ }
+    ensures { λ r. ⌜ (r ≡ 0 → Belongs place x y) ⌝ }
 {
     (((place == 0) & (x != SYNC)) | ((place == 1) & (x != y)) | ((place == 2) & (x != y))) as u8
 }
@@ -26,13 +26,13 @@ pub(crate) fn is_row(piece: &[u8], at: usize) -> bool
     requires { ⌜ at + 64 < length (now piece) ⌝ }
     ensures { λ r. ⌜ (r ≡ true → Row (now (piece .entry)) at) ⌝ }
 {
-    let mut sum: u8 = 0;
+    let mut bad: u8 = 0;
     let mut k: usize = 0;
     while k < ROW_BYTES {
-        sum += wrong(k % GROUP, piece[at + k], piece[at + k + 1]);
+        bad = bad | wrong(k % GROUP, piece[at + k], piece[at + k + 1]);
         k += 1;
     }
-    sum == 0
+    bad == 0
 }
 
 // The byte above the lowest.

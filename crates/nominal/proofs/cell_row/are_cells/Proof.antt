@@ -5,18 +5,18 @@ use native.Mathlib.Omega.{arith}
 use denote.Ref.{now}
 use borrow.Author.Tests.{eqb-true}
 use Rattle.nominal.specs.Stretches.{InCell}
-use Rattle.nominal.proofs.Rows.{Belong, belong-more, cell-row-of}
+use Rattle.nominal.proofs.Rows.{or-none, Belong, belong-more, cell-row-of}
 use Rattle.nominal.proofs.cell_row.are_cells.Statement.{statement}
 use Rattle.nominal.proofs.cell_row.are_cells.Tie as tie
 
 abbrev Inv-loop : tie.InvT-loop
-Inv-loop piece at sum₀ k₀ sum k = (k ≤ 144) × (sum ≤ k) × (sum ≡ 0 → Belong InCell 9 piece at k)
+Inv-loop piece at bad₀ k₀ bad k = (k ≤ 144) × (bad ≡ 0 → Belong InCell 9 piece at k)
 
 abbrev μ-loop : tie.MeasureT-loop
-μ-loop piece at sum₀ k₀ sum k = 144 - k
+μ-loop piece at bad₀ k₀ bad k = 144 - k
 
 loop-holds : tie.Need-loop-holds Inv-loop μ-loop
-loop-holds c = (omega arith, omega arith, λ e m h. absurd (omega arith))
+loop-holds c = (omega arith, λ e m h. absurd (omega arith))
 
 add-wrong : tie.Need-add-wrong Inv-loop μ-loop
 add-wrong c = omega arith
@@ -36,9 +36,6 @@ shared-slice-read-wrong-2 c = omega arith
 wrong-requires : tie.Need-wrong-requires Inv-loop μ-loop
 wrong-requires c κs = tt
 
-add-sum : tie.Need-add-sum Inv-loop μ-loop
-add-sum c = omega arith
-
 add-k : tie.Need-add-k Inv-loop μ-loop
 add-k c = omega arith
 
@@ -49,16 +46,16 @@ loop-again : tie.Need-loop-again Inv-loop μ-loop
 loop-again c =
     let turn = c .before .before .before .before in
     let s = turn .before .before in
-    let so-far = turn .loop .inv .2 in
+    let so-far = turn .loop .inv .1 in
     let more = belong-more InCell 9 (now (s .args .piece)) (s .args .at) (turn .loop .k) in
-    (omega arith, omega arith, λ e. more (so-far (omega arith)) (c .wrong .ensures .1 (omega arith)))
+    (omega arith, λ e. let none = or-none (turn .loop .bad) (c .wrong .result) e in more (so-far (none .0)) (c .wrong .ensures (none .1)))
 
 returns : tie.Need-returns Inv-loop μ-loop
 returns c =
     let s = c .before .before .before in
     let k = c .before .loop in
     let whole : k .k ≡ 144 = omega arith in
-    λ e. cell-row-of (now (s .args .piece)) (s .args .at) (s .pre) (rw whole at (k .inv .2 (eqb-true _ _ e)))
+    λ e. cell-row-of (now (s .args .piece)) (s .args .at) (s .pre) (rw whole at (k .inv .1 (eqb-true _ _ e)))
 
 pub are-cells-spec : {M : Type 1} → statement M
 are-cells-spec =
@@ -73,7 +70,6 @@ are-cells-spec =
     add-wrong-3
     shared-slice-read-wrong-2
     wrong-requires
-    add-sum
     add-k
     loop-less
     loop-again

@@ -1,6 +1,6 @@
 -- `nominal::cell_row::wrong` meets its contract: where neither test holds, the byte is right at its place. Assumes nothing.
 use native.Mathlib.Omega.{arith}
-use Rattle.nominal.proofs.Rows.{in-cell-few, in-cell}
+use Rattle.nominal.proofs.Rows.{in-cell}
 use borrow.Author.Needs.{needs}
 use Rattle.nominal.proofs.cell_row.wrong.Statement.{statement}
 use Rattle.nominal.proofs.cell_row.wrong.Tie as tie
@@ -16,8 +16,7 @@ returns : tie.Need-returns
 returns c =
     let a = c .before .args in
     let u = c .usual in
-    let few = in-cell-few _ (a .place) (a .x) (a .y) (u .result) in
-    (few, λ e. in-cell _ (a .place) (a .x) (a .y) (u .result) e (omega arith) (u .ensures))
+    λ e. in-cell _ (a .place) (a .x) (a .y) (u .result) e (omega arith) (u .ensures)
 
 pub wrong-spec : {M : Type 1} → statement M
 wrong-spec = tie.close (tie.spec usual-requires cast-result returns)
