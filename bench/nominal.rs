@@ -1,5 +1,5 @@
 // A streaming reader in safe Rust with the ideas for a fast proved one copied into it. A nominal group is SYNC and three equal copies, a
-// nominal cell such a group and five FILL: a cell or two groups are compared as one number, sixteen groups on whole vectors, and the counts
+// nominal cell such a group and five FILL: a cell or two groups are compared as one number, sixteen cells or groups on whole vectors, and the counts
 // of a run are added once, from how far it went. From the first bad copy on, groups of which two copies are equal are voted without branches
 // (voted.rs). Outside groups, blocks of 64 bytes without SYNC are passed over. All else goes a group at a time, or a byte at a time where a
 // group lies across the end of a piece.
@@ -112,8 +112,11 @@ fn hunt(t: &mut Tally, piece: &[u8]) -> Run {
 fn place(t: &mut Tally, piece: &[u8]) -> Run {
     let places = &mut t.frame[t.placed as usize..FRAME - 1];
     let mut run = Run::past_fill(piece);
-    // Twice, since a sixth FILL comes once in a frame or so.
-    for _ in 0..2 {
+    // Sixteen at a time, one by one, and once more, since a sixth FILL comes once in a frame or so.
+    if piece.get(run.bytes..run.bytes + CELL).is_some_and(is_cell) {
+        let rows = copy_cell_rows(&piece[run.bytes..], places);
+        let cells = rows + copy_cells(&piece[run.bytes + CELL * rows..], &mut places[rows..]);
+        run.pass(piece, CELL, cells);
         let cells = copy_cells(&piece[run.bytes..], &mut places[run.words..]);
         run.pass(piece, CELL, cells);
     }
@@ -145,6 +148,48 @@ fn copy_cells(piece: &[u8], places: &mut [u8]) -> usize {
         words += 1;
     }
     words
+}
+
+// The same, sixteen at a time.
+#[inline(always)]
+fn copy_cell_rows(piece: &[u8], places: &mut [u8]) -> usize {
+    let mut words = 0;
+    for places in places.chunks_exact_mut(ROW) {
+        match piece.get(CELL * words..CELL * (words + ROW) + 1) {
+            Some(row) if is_cell_row(row.try_into().unwrap()) => {
+                for (place, cell) in places.iter_mut().zip(row.chunks_exact(CELL)) {
+                    *place = cell[1];
+                }
+                words += ROW;
+            }
+            _ => break,
+        }
+    }
+    words
+}
+
+// What stands in a row of cells where no copy does, and the bits that are looked at: of those bytes, and of copies that are compared with the next byte.
+const USUAL: [u8; ROW * CELL] = by_place([SYNC, 0, 0, 0, FILL, FILL, FILL, FILL, FILL]);
+const SPACED: [u8; ROW * CELL] = by_place([0xFF, 0, 0, 0, 0xFF, 0xFF, 0xFF, 0xFF, 0xFF]);
+const COPIED: [u8; ROW * CELL] = by_place([0, 0xFF, 0xFF, 0, 0, 0, 0, 0, 0]);
+
+const fn by_place(cell: [u8; CELL]) -> [u8; ROW * CELL] {
+    let mut row = [0; ROW * CELL];
+    let mut k = 0;
+    while k < row.len() {
+        row[k] = cell[k % CELL];
+        k += 1;
+    }
+    row
+}
+
+#[inline(always)]
+fn is_cell_row(row: &[u8; ROW * CELL + 1]) -> bool {
+    let mut wrong = 0;
+    for k in 0..ROW * CELL {
+        wrong |= (row[k] ^ USUAL[k]) & SPACED[k] | (row[k] ^ row[k + 1]) & COPIED[k];
+    }
+    wrong == 0
 }
 
 // The same of groups that follow each other: sixteen at a time, then two. Not inlined: beside it the loop over cells is slower.
