@@ -23,7 +23,9 @@ reached-begun r b = onward-begun (r .onward _ (majority 1) []) b
 -- the nominal stretch
 module _ (c : tie.After-nominal-run) where
   abbrev start : tie.Start
-  start = c .before .before .before .before .before
+  start =
+      let closed = c .before .before in
+      closed .before .before .before
 
   abbrev filled : List ℕ
   filled = c .nominal-run .last .1 .1 .1 .0
