@@ -182,6 +182,9 @@ left-of x y z n all w ex ey ez en =
       third-is = omega arith;
     }
 
+pub same-weak : {v w : Weak} → v .first ≡ w .first → v .second ≡ w .second → v .third ≡ w .third → v ≡ w
+same-weak first second third = rw (first, second, third)
+
 pub weak-left : {s n all : ℕ} {w : Weak} → Summed s n w all → Left (s % 0x10000) (s / 0x10000 % 0x10000) (s / 0x100000000) n w
 weak-left {s} {n} {all} {w} h =
     let told = lanes h in
