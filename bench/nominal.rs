@@ -138,7 +138,7 @@ fn place(t: &mut Tally, piece: &[u8]) -> Run {
 
 // The words of the cells that come first, as many as there are places: how many.
 #[inline(always)]
-fn copy_cells(piece: &[u8], places: &mut [u8]) -> usize {
+pub fn copy_cells(piece: &[u8], places: &mut [u8]) -> usize {
     let mut words = 0;
     for (place, cell) in places.iter_mut().zip(piece.chunks_exact(CELL)) {
         if !is_cell(cell) {
@@ -255,7 +255,7 @@ fn is_pair(p: &[u8]) -> bool {
 }
 
 #[inline(always)]
-fn is_cell(c: &[u8]) -> bool {
+pub fn is_cell(c: &[u8]) -> bool {
     eight(c) == CELL_BITS + u64::from(COPIES) * u64::from(c[1]) && c[8] == FILL
 }
 

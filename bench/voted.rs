@@ -2,7 +2,7 @@
 // gathered into three columns and compared as vectors; of other groups it is counted which two copies agree, three counts side by side in one number,
 // and the word comes from masks. So no branch depends on which copy is bad.
 
-use crate::nominal::{eight, leading_fill, CELL, GROUP};
+use crate::nominal::{copy_cells, eight, is_cell, leading_fill, CELL, GROUP};
 use crate::tally::{Tally, FILL, FRAME, FRAME_SYNC, SYNC};
 
 // The bytes of a cell that are no copies, among its first eight.
@@ -48,11 +48,13 @@ fn place(t: &mut Tally, piece: &[u8]) -> usize {
         more = place_block(&mut run, piece, places);
     }
     run.past_quiet(piece);
-    for place in &mut places[run.groups..] {
+    while run.groups < places.len() {
         match group_at(&run, piece) {
             Some((agree, word)) => {
-                *place = word;
+                places[run.groups] = word;
                 run.pass(piece, agree);
+                let cells = copy_cells(&piece[run.bytes..], &mut places[run.groups..]);
+                run.pass_alike(cells);
             }
             None => break,
         }
@@ -115,7 +117,12 @@ fn hunt(t: &mut Tally, piece: &[u8]) -> usize {
     let mut run = Run { bytes: leading_fill(piece), ..Run::default() };
     while run.groups < MOST {
         match group_at(&run, piece) {
-            Some((agree, word)) if word != FRAME_SYNC[0] => run.pass(piece, agree),
+            Some((agree, word)) if word != FRAME_SYNC[0] => {
+                run.pass(piece, agree);
+                let goes_on = |c: &&[u8]| is_cell(c) && c[1] != FRAME_SYNC[0];
+                let cells = piece[run.bytes..].chunks_exact(CELL).take(MOST - run.groups).take_while(goes_on).count();
+                run.pass_alike(cells);
+            }
             _ => break,
         }
     }
@@ -156,6 +163,17 @@ impl Run {
         self.past_quiet(piece);
         self.groups += 1;
         self.agreements += agree;
+    }
+
+    // Past so many cells of three equal copies.
+    #[inline(always)]
+    fn pass_alike(&mut self, cells: usize) {
+        if cells != 0 {
+            self.last = self.bytes + CELL * (cells - 1);
+            self.bytes += CELL * cells;
+            self.groups += cells;
+            self.agreements += cells as u64 * side_by_side(1, 1, 1);
+        }
     }
 
     // FILL mostly, and stray bytes now and then.
