@@ -3,7 +3,7 @@ use mathlib.Core.Path.{_≡_, refl, sym, ap, _∙_, subst}
 use mathlib.Core.Bool.{Bool, true, false, cond, _&&_, _||_, not}
 use mathlib.Core.List.{List, [], _∷_}
 use mathlib.Core.Option.{Option, none, some}
-use Prim.Native.Nat.{ℕ, suc, _+_, _*_, _-_, _≤_, _<_}
+use Prim.Native.Nat.{ℕ, zero, suc, _+_, _*_, _-_, _≤_, _<_}
 use native.Mathlib.Nat.{zero-add, add-zero, add-suc, suc-add}
 use native.Mathlib.Numerals.{add-one}
 use native.Mathlib.Omega.{arith}
@@ -27,10 +27,10 @@ use Rattle.own_sync.proofs.Locks.{same-mode, locks-byte, stopsAt, up-stop, up-o
 use Rattle.quiet.specs.Quiet.{Byte, Quiet}
 use Rattle.nominal.specs.Stretches.{Stored, Hunted, lastOr}
 use Rattle.nominal.specs.Effect.{Leads, PlainSteps, stays, byte, withWords, withQuiet, withPlaced, withHunted, afterQuiet}
-use Rattle.nominal.proofs.Effect.{plain-join, plain-ordered, plain-bytes, group-opens, quiet-plain, placed-plain, hunted-plain}
+use Rattle.nominal.proofs.Effect.{plain-join, plain-ordered, plain-bytes, sync-opens, first-opens, group-opens, quiet-plain, placed-plain, hunted-plain}
 use Rattle.plain_steps.specs.declared.layers.Layers.{Layers}
 use Rattle.plain_steps.specs.Shapes.{stateWith}
-use Rattle.reader_run.specs.Onward.{Begun, Moment, fed, restFrom, endsAt, locksAt, halts, Onward, Reaches, Words, opened}
+use Rattle.reader_run.specs.Onward.{Begun, Moment, fed, restFrom, endsAt, locksAt, halts, Onward, Reaches, Words, opened, ByteOr}
 
 -- ---- a byte
 
@@ -319,5 +319,24 @@ module _ {l : Layers} {frame p : List ℕ} {i : ℕ} (b : Begun p i (stateWith l
 
     -- SYNC and two copies
     pub opened-onward : {x y : ℕ} → Byte p i SYNC → Byte p (i + 1) x → Byte p (i + 2) y
-        → Reaches p i t (i + 3) (stateWith (layersOf (opened (l .groups) x y) (l .framing) (l .runs)) frame)
+        → Reaches p i t (i + 3) (stateWith (layersOf (opened (l .groups) 3 x y) (l .framing) (l .runs)) frame)
     opened-onward sync x y = plain-onward (λ vote same a. group-opens t closed sync x y) refl refl b
+
+    -- the last n bytes of the piece, which are the first ones of a group
+    module _ (sync : Byte p i SYNC) {x y : ℕ} (first : ByteOr p (i + 1) (l .groups .first) x) (second : ByteOr p (i + 2) (l .groups .second) y) where
+      pub last-onward : (n : ℕ) → length p ≡ i + n → 0 < n → n ≤ 3
+          → Reaches p i t (length p) (stateWith (layersOf (opened (l .groups) n x y) (l .framing) (l .runs)) frame)
+      last-onward zero e h k = absurd (omega arith)
+      last-onward (suc zero) e h k =
+          let none = first .beyond (omega arith) in
+          let nor = second .beyond (omega arith) in
+          rw (e, none, nor) (plain-onward (λ vote same a. sync-opens t closed sync) refl refl b)
+      last-onward (suc (suc zero)) e h k =
+          let one : Byte p (i + 1) x = record { inside = omega arith; is = sym (first .there (omega arith)) } in
+          let none = second .beyond (omega arith) in
+          rw (e, none) (plain-onward (λ vote same a. first-opens t closed sync one) refl refl b)
+      last-onward (suc (suc (suc zero))) e h k =
+          let one : Byte p (i + 1) x = record { inside = omega arith; is = sym (first .there (omega arith)) } in
+          let two : Byte p (i + 2) y = record { inside = omega arith; is = sym (second .there (omega arith)) } in
+          rw e (opened-onward sync one two)
+      last-onward (suc (suc (suc (suc n)))) e h k = absurd (omega arith)

@@ -3,7 +3,7 @@ use mathlib.Core.Path.{_≡_}
 use mathlib.Core.Bool.{Bool, true, false, cond, _&&_, _||_}
 use mathlib.Core.List.{List}
 use Prim.Native.Nat.{ℕ, _+_, _-_, _≤_, _<_, _^_}
-use lib.ListN.{length, drop}
+use lib.ListN.{length, drop, getD}
 use Rattle.base.specs.Format.{minorFrame}
 use Rattle.labelling.specs.declared.Groups.{Groups}
 use Rattle.labelling.specs.declared.Weak.{Weak}
@@ -117,16 +117,21 @@ pub record VotedGroups (gs : List Copies) (w : ℕ) (weak : Weak) (x y : ℕ) : 
   pub first-is : (d : Copies) → 0 < length gs → x ≡ lastCopies gs d .first
   pub second-is : (d : Copies) → 0 < length gs → y ≡ lastCopies gs d .second
 
--- the first layer with a group open whose first copies are x and y
-abbrev pub opened : Groups → ℕ → ℕ → Groups
-opened g x y = record {
-  bytes = g .bytes + 3;
+-- the first layer with a group open, of which n bytes are known; its first copies are x and y
+abbrev pub opened : Groups → ℕ → ℕ → ℕ → Groups
+opened g n x y = record {
+  bytes = g .bytes + n;
   fill = g .fill;
   stray = g .stray;
   voted = g .voted;
   split = g .split;
   weak = g .weak;
-  «open» = 3;
+  «open» = n;
   first = x;
   second = y;
 }
+
+-- x is the byte of p at i, or d where p has none there
+pub record ByteOr (p : List ℕ) (i d x : ℕ) : Type 0 where
+  pub there : i < length p → x ≡ getD p i 0
+  pub beyond : length p ≤ i → x ≡ d

@@ -4,11 +4,11 @@ ghost use mathlib.Core.Path.{_≡_};
 ghost use mathlib.Core.Bool.{true, false};
 ghost use mathlib.Core.List.{List};
 ghost use Prim.Native.Nat.{ℕ, _+_, _*_, _-_, _≤_, _<_, _^_};
-ghost use lib.ListN.{getD};
+ghost use lib.ListN.{length, getD};
 ghost use Rattle.nominal.specs.Effect.{withWords, withQuiet};
 ghost use Rattle.order.specs.Room.{GroupsRoom, FramingRoom};
 ghost use Rattle.plain_steps.specs.Shapes.{stateWith};
-ghost use Rattle.reader_run.specs.Onward.{Fits, Begun, Reaches, ReachesAnyFrame, Words, VotedGroups, WeakRoom, bothWeak, opened as openedWith};
+ghost use Rattle.reader_run.specs.Onward.{Fits, Begun, Reaches, ReachesAnyFrame, Words, VotedGroups, WeakRoom, bothWeak, opened as openedWith, ByteOr};
 ghost use Rattle.voted.specs.Copies.{Copies};
 ghost use Rattle.voted.specs.Effect.{withVoted};
 use base::format::SYNC;
@@ -84,14 +84,14 @@ fn after_quiet(g: Groups, n: u64, k: u64) -> Groups
     next
 }
 
-// SYNC and two copies more.
-fn opened(g: Groups, x: u8, y: u8) -> Groups
-    requires { ⌜ g .bytes ≤ 2 ^ 40 ⌝ }
-    ensures { λ r. ⌜ r ≡ openedWith g x y ⌝ }
+// The first n bytes of a group more: SYNC, and copies after it. x and y are the first two copies, as far as they are known.
+fn opened(g: Groups, n: u64, x: u8, y: u8) -> Groups
+    requires { ⌜ (g .bytes ≤ 2 ^ 40) × (n ≤ 3) ⌝ }
+    ensures { λ r. ⌜ r ≡ openedWith g n x y ⌝ }
 {
     let mut next = g;
-    next.bytes += 3;
-    next.open = 3;
+    next.bytes += n;
+    next.open = n;
     next.first = x;
     next.second = y;
     next
@@ -222,13 +222,19 @@ fn nominal_run(l: Layers, piece: &[u8], at: usize, frame: &mut [u8; 128]) -> Rea
     place_run(l, piece, at, frame)
 }
 
-// What stands before the next SYNC.
+// What stands before the next SYNC: most often nothing, which is seen here, since a call would cost more than the test.
 fn quiet_run(l: Layers, piece: &[u8], at: usize) -> Reached
     requires { ⌜ GroupsRoom (l .groups) × Fits (l .groups) (now piece) at ⌝ }
     requires { ⌜ l .groups .«open» ≡ 0 ⌝ }
     ensures { λ r. ⌜ ReachesAnyFrame (now (piece .entry)) at l (r .at) (r .layers) ⌝ }
     ensures { λ r. ⌜ r .layers .groups .«open» ≡ 0 ⌝ }
 {
+    if piece.len() <= at {
+        return Reached { layers: l, at: at };
+    }
+    if piece[at] == SYNC {
+        return Reached { layers: l, at: at };
+    }
     let skipped = quiet::skip(piece, at);
     let mut next = l;
     next.groups = after_quiet(l.groups, (skipped.at - at) as u64, skipped.stray);
@@ -257,20 +263,53 @@ fn any_voted(l: Layers, piece: &[u8], at: usize, frame: &mut [u8; 128]) -> Reach
     voted_run(l, piece, at, frame)
 }
 
-// Where a whole group stands, its SYNC and two copies.
+// The byte at `at`, or `other` where the piece has none there.
+fn byte_or(piece: &[u8], at: usize, other: u8) -> u8
+    ensures { λ r. ⌜ ByteOr (now (piece .entry)) at other r ⌝ }
+{
+    if piece.len() <= at {
+        return other;
+    }
+    piece[at]
+}
+
+// The last bytes of a piece that ends within a group, from its SYNC on.
+fn open_last(l: Layers, piece: &[u8], at: usize) -> Reached
+    requires { ⌜ GroupsRoom (l .groups) × Fits (l .groups) (now piece) at × (length (now piece) ≤ at + 3) ⌝ }
+    requires { ⌜ l .groups .«open» ≡ 0 ⌝ }
+    ensures { λ r. ⌜ ReachesAnyFrame (now (piece .entry)) at l (r .at) (r .layers) ⌝ }
+{
+    if piece.len() <= at {
+        return Reached { layers: l, at: at };
+    }
+    if piece[at] != SYNC {
+        return Reached { layers: l, at: at };
+    }
+    let n = (piece.len() - at) as u64;
+    let x = byte_or(piece, at + 1, l.groups.first);
+    let y = byte_or(piece, at + 2, l.groups.second);
+    let mut next = l;
+    next.groups = opened(l.groups, n, x, y);
+    Reached {
+        layers: next,
+        at: piece.len(),
+    }
+}
+
+// Where a whole group stands, its SYNC and two copies; where the piece ends within one, all that is there of it.
 fn open_group(l: Layers, piece: &[u8], at: usize) -> Reached
     requires { ⌜ GroupsRoom (l .groups) × Fits (l .groups) (now piece) at ⌝ }
     requires { ⌜ l .groups .«open» ≡ 0 ⌝ }
     ensures { λ r. ⌜ ReachesAnyFrame (now (piece .entry)) at l (r .at) (r .layers) ⌝ }
 {
     if piece.len() - at < 4 {
-        return Reached { layers: l, at: at };
+        return open_last(l, piece, at);
     }
     if piece[at] != SYNC {
         return Reached { layers: l, at: at };
     }
     let mut next = l;
-    next.groups = opened(l.groups, piece[at + 1], piece[at + 2]);
+    next.groups = opened(l.groups, 3, piece[at + 1], piece[at + 2]);
     Reached {
         layers: next,
         at: at + 3,
@@ -289,7 +328,7 @@ fn last_comes(placed: u64, piece: &[u8], at: usize) -> bool {
 }
 
 // As far as nothing can close but voted groups before the last place: up to the third copy of any other group, a group that is open already, or
-// the last bytes of the piece.
+// the end of the piece.
 pub(crate) fn reach(l: Layers, piece: &[u8], at: usize, frame: &mut [u8; 128]) -> Reached
     requires { ⌜ Begun (now piece) at (stateWith l (now frame)) ⌝ }
     ensures { λ r. ⌜ Reaches (now (piece .entry)) at (stateWith l (now (frame .entry))) (r .at) (stateWith (r .layers) (now (frame .exit))) ⌝ }

@@ -1,4 +1,5 @@
--- `reader_run::stretch::open_group` meets its contract: where a whole group stands, the first three bytes of it. Assumes nothing.
+-- `reader_run::stretch::open_group` meets its contract: where a whole group stands, the first three bytes of it; where the piece ends within one, what is
+-- there of it. Assumes nothing.
 use mathlib.Core.Path.{refl}
 use native.Mathlib.Omega.{arith}
 use Rattle.reader_run.proofs.Onward.{none-onward, opened-onward}
@@ -9,8 +10,11 @@ use Rattle.reader_run.proofs.stretch.open_group.Tie as tie
 sub-if1 : tie.Need-sub-if1
 sub-if1 c = search needs
 
+open-last-requires : tie.Need-open-last-requires
+open-last-requires c κs = search needs
+
 returns : tie.Need-returns
-returns c = λ frame b. none-onward b
+returns c = c .open-last .ensures
 
 shared-slice-read-if2 : tie.Need-shared-slice-read-if2
 shared-slice-read-if2 c = search needs
@@ -51,6 +55,7 @@ open-group-spec =
     tie.close
     (tie.spec
     sub-if1
+    open-last-requires
     returns
     shared-slice-read-if2
     returns-2
