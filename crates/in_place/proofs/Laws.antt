@@ -3,22 +3,23 @@ use mathlib.Core.Path.{_≡_, refl, sym, ap, _∙_}
 use mathlib.Core.Bool.{Bool, true, false, _&&_, true≢false}
 use mathlib.Core.List.{List, [], _∷_, _++_}
 use Prim.Native.Nat.{ℕ, zero, suc, _+_, _^_, _≤_, _<_}
+use native.Mathlib.Nat.{add-zero}
 use native.Mathlib.Omega.{arith}
 use lib.ListN.{length, getD, set, length-set, length-append}
-use lib.Seq.{set-append-left}
-use mir.Val.{boolByte}
+use lib.Seq.{set-append-left, set-getD}
 use Rattle.base.specs.Lists.{one}
 use Rattle.labelling.specs.declared.Framing.{Framing}
 use Rattle.labelling.specs.declared.Groups.{Groups}
 use Rattle.labelling.specs.declared.Operators.{Operators}
 use Rattle.labelling.specs.declared.Runs.{Runs}
-use Rattle.labelling.specs.Operators.{booked}
+use Rattle.labelling.specs.Operators.{paidTo, booked}
 use Rattle.labelling.specs.Order.{inOrder}
 use Rattle.labelling.specs.Calls.{TakeCall, takeRefusal, answer}
 use Rattle.labelling.proofs.CallLaws.{accepted-answer}
 use Rattle.order.specs.Room.{DutyRoom}
 use Rattle.own_sync.specs.Locks.{toLock}
 use Rattle.own_sync.proofs.Locks.{part-accepted}
+use Rattle.plain_steps.specs.declared.layers.Layers.{Layers}
 use Rattle.tally_numbers.specs.Numbers.{groupNumbers, framingNumbers, runNumbers, weakNumbers, operatorsOf, numbersOf, countsOnly, isTally, framingOf, tallyOf}
 use Rattle.tally_numbers.proofs.Numbers.{framing-back}
 use Rattle.reader.specs.declared.Taken.{Taken}
@@ -60,26 +61,32 @@ paid-put g f r o rule d v h =
         set-append-left (o .paid ++ o .duty ∷ []) (rule ∷ []) d v (omega (arith, length-append (o .paid) (o .duty ∷ [])))
         ∙ ap (λ (l : List ℕ). l ++ rule ∷ []) (set-append-left (o .paid) (o .duty ∷ []) d v h)
 
-bool-one : (b : Bool) → boolByte b ≡ one b
-bool-one true = refl
-bool-one false = refl
+-- nothing more is paid
+pub none-booked : (o : Operators) → booked false o ≡ o
+none-booked o = rw (add-zero (paidTo (o .duty) o), set-getD (o .paid) (o .duty) 0)
 
-pub at-most-one : (b : Bool) → boolByte b ≤ 1
-at-most-one true = omega arith
-at-most-one false = omega arith
+-- the numbers n with these layers and operators
+abbrev pub withLayers : List ℕ → Layers → Operators → List ℕ
+withLayers n l o = numbersOf (countsOnly (l .groups) (l .framing) (l .runs) o (getD n 32 0))
 
-module _ (n : List ℕ) (room : DutyRoom (operatorsOf n)) where
+module _ (n : List ℕ) (room : DutyRoom (operatorsOf n)) (l : Layers) where
   abbrev d : ℕ
   d = getD n 31 0
 
-  pub paid-within : getD n (23 + d) 0 ≤ 2 ^ 40
-  paid-within = rw (paid-read n d (room .duty-max)) (room .paid-max)
+  -- before the payment
+  abbrev put : List ℕ
+  put = withLayers n l (operatorsOf n)
 
-  pub payment : (g : Groups) (f : Framing) (r : Runs) (rule : ℕ) (complete : Bool)
-      → set (numbersOf (countsOnly g f r (operatorsOf n) rule)) (23 + d) (getD n (23 + d) 0 + boolByte complete)
-      ≡ numbersOf (countsOnly g f r (booked complete (operatorsOf n)) rule)
-  payment g f r rule complete =
-      rw (paid-read n d (room .duty-max), bool-one complete) (paid-put g f r (operatorsOf n) rule d _ (omega (arith, room .duty-max)))
+  pub paid-within : getD put (23 + d) 0 ≤ 2 ^ 40
+  paid-within = rw (paid-read put d (room .duty-max)) (room .paid-max)
+
+  pub payment : set put (23 + d) (getD put (23 + d) 0 + 1) ≡ withLayers n l (booked true (operatorsOf n))
+  payment =
+      rw (paid-read put d (room .duty-max))
+      (paid-put (l .groups) (l .framing) (l .runs) (operatorsOf n) (getD n 32 0) d _ (omega (arith, room .duty-max)))
+
+  pub no-payment : put ≡ withLayers n l (booked false (operatorsOf n))
+  no-payment = ap (withLayers n l) (sym (none-booked (operatorsOf n)))
 
 -- the paid counts stay eight
 pub eight-booked : (n : List ℕ) (complete : Bool) → length (booked complete (operatorsOf n) .paid) ≡ 8

@@ -3,16 +3,13 @@
 use mathlib.Core.Path.{_≡_, refl, sym, ap, subst, _∙_}
 use mathlib.Core.Bool.{Bool, true, false}
 use mathlib.Core.List.{List, [], _∷_}
-use Prim.Native.Nat.{ℕ, zero, suc, _+_, _^_, _≤_, _<_}
-use native.Mathlib.Nat.{add-zero}
+use Prim.Native.Nat.{ℕ, _+_, _^_, _≤_, _<_}
 use native.Mathlib.Omega.{arith}
-use lib.ListN.{length, getD, set}
+use lib.ListN.{length, getD}
 use lib.Seq.{length-sets}
 use Rattle.base.specs.Format.{SYNC, syncWord, minorFrame, majorFrame}
 use Rattle.labelling.specs.declared.Framing.{Framing}
-use Rattle.labelling.specs.declared.Operators.{Operators}
 use Rattle.labelling.specs.declared.Tally.{Tally}
-use Rattle.labelling.specs.Operators.{booked}
 use Rattle.labelling.specs.Votes.{ruleVote}
 use Rattle.labelling.specs.Machine.{State, stateOf, withState, withOperators}
 use Rattle.labelling.specs.Order.{inOrder}
@@ -28,6 +25,7 @@ use Rattle.reader.specs.Shapes.{callOf, lockedBy}
 use Rattle.tally_numbers.specs.Numbers.{framingOf, tallyOf}
 use Rattle.in_place.specs.Places.{callIn}
 use Rattle.in_place.specs.Leading.{LeadFits, afterLead, Tested, ledIn, begunWith}
+use Rattle.in_place.proofs.Laws.{none-booked}
 
 -- ---- what the lead-in does to a state
 
@@ -68,14 +66,6 @@ lead-fed rule t a places at-first outside =
     ∙ plain-feed (placed-plain (unanimous rule) {a = a} lead-nominal t record { closed = outside; places = places; room = omega (arith, at-first) })
 
 -- ---- what it does to a tally
-
-none-more : (l : List ℕ) (d : ℕ) → set l d (getD l d 0 + 0) ≡ l
-none-more [] d = refl
-none-more (x ∷ l) zero = rw (add-zero x)
-none-more (x ∷ l) (suc d) = ap (λ (r : List ℕ). x ∷ r) (none-more l d)
-
-none-booked : (o : Operators) → booked false o ≡ o
-none-booked o = rw (none-more (o .paid) (o .duty))
 
 -- the tally that the run begins with
 abbrev pub begunTally : Bool → Tally → Tally

@@ -175,12 +175,15 @@ pub fn in_order(numbers: &[u64; NUMBERS], frame: &[u8; 128]) -> bool
     ensures { λ r. ⌜ r ≡ (isTally (now (numbers .entry)) && inOrder (tallyOf (now (numbers .entry)) (now (frame .entry)))) ⌝ }
     ensures { λ r. ⌜ (r ≡ true → length (now (frame .entry)) ≡ minorFrame) ⌝ }
 {
-    if !tally_numbers::is_tally(numbers) {
-        return false;
-    }
-    let t = tally_numbers::tally_of(numbers, frame);
-    order::in_order(t)
+    let bytes = *frame;
+    whole(bytes);
+    number_order::in_order(numbers)
 }
+
+// The type of a frame tells its length of a value, and not of what is lent. No code is left of this.
+fn whole(bytes: [u8; 128])
+    ensures { λ _. ⌜ length bytes ≡ minorFrame ⌝ }
+{}
 
 fn refused(number: u8) -> Part
     ensures { λ r. ⌜ r ≡ refusedWith number ⌝ }
@@ -274,12 +277,13 @@ fn put_layers(l: Layers, complete: bool, n: &mut [u64; NUMBERS])
         ≡ numbersOf (countsOnly (l .groups) (l .framing) (l .runs) (booked complete (operatorsOf (now (n .entry)))) (getD (now (n .entry)) 32 0)) ⌝ }
 {
     let place = PAID + n[DUTY] as usize;
-    let paid = n[place] + complete as u64;
     let rule = n[RULE];
     let operators = tally_numbers::operators_of(&*n);
     let groups = l.groups;
     let framing = l.framing;
     let runs = l.runs;
     tally_numbers::put_counts(groups, framing, runs, operators, rule, n);
-    n[place] = paid;
+    if complete {
+        n[place] += 1;
+    }
 }

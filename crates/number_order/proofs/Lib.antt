@@ -1,0 +1,4 @@
+mod Joined
+mod Modes
+mod Order
+mod Sums

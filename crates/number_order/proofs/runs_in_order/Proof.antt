@@ -1,0 +1,91 @@
+-- `number_order::runs_in_order` meets its contract: within the wide bound the sum does not run over, and above it no sum holds. Assumes nothing.
+use native.Mathlib.Omega.{arith}
+use Prim.Native.Nat.{ℕ}
+use denote.Ref.{now}
+use Rattle.labelling.specs.declared.Runs.{Runs}
+use Rattle.tally_numbers.specs.Numbers.{framingOf, runsOf}
+use Rattle.number_order.proofs.Sums.{runs-refused, runs-passed, runs-sum}
+use borrow.Author.Needs.{needs}
+use Rattle.number_order.proofs.runs_in_order.Statement.{statement}
+use Rattle.number_order.proofs.runs_in_order.Tie as tie
+
+abbrev good : tie.Start → ℕ
+good s = framingOf (now (s .args .n)) .good
+
+abbrev r : tie.Start → Runs
+r s = runsOf (now (s .args .n))
+
+-- where the test before the sum has passed
+abbrev start : tie.Else1 → tie.Start
+start e = e .before .before .before .before .before
+
+element-copy-out-if1 : tie.Need-element-copy-out-if1
+element-copy-out-if1 c = search needs
+
+element-copy-out-if1-2 : tie.Need-element-copy-out-if1-2
+element-copy-out-if1-2 c = search needs
+
+element-copy-out-if1-3 : tie.Need-element-copy-out-if1-3
+element-copy-out-if1-3 c = search needs
+
+element-copy-out-if1-4 : tie.Need-element-copy-out-if1-4
+element-copy-out-if1-4 c = search needs
+
+returns : tie.Need-returns
+returns c = let s = c .before .before .before .before .before in runs-refused _ (good s) (r s) (omega arith) (c .if1 .taken)
+
+element-copy-out-result : tie.Need-element-copy-out-result
+element-copy-out-result c = search needs
+
+element-copy-out-result-2 : tie.Need-element-copy-out-result-2
+element-copy-out-result-2 c = search needs
+
+mul-result : tie.Need-mul-result
+mul-result c = let e = c .before .before in let p = runs-passed _ (good (start e)) (r (start e)) (e .if1 .left) in omega arith
+
+element-copy-out-result-3 : tie.Need-element-copy-out-result-3
+element-copy-out-result-3 c = search needs
+
+add-result : tie.Need-add-result
+add-result c = let e = c .before .before .before in let p = runs-passed _ (good (start e)) (r (start e)) (e .if1 .left) in omega arith
+
+element-copy-out-result-4 : tie.Need-element-copy-out-result-4
+element-copy-out-result-4 c = search needs
+
+add-result-2 : tie.Need-add-result-2
+add-result-2 c = let e = c .before .before .before .before in let p = runs-passed _ (good (start e)) (r (start e)) (e .if1 .left) in omega arith
+
+element-copy-out-result-5 : tie.Need-element-copy-out-result-5
+element-copy-out-result-5 c = search needs
+
+add-result-3 : tie.Need-add-result-3
+add-result-3 c =
+    let e = c .before .before .before .before .before in
+    let p = runs-passed _ (good (start e)) (r (start e)) (e .if1 .left) in
+    omega arith
+
+returns-2 : tie.Need-returns-2
+returns-2 c =
+    let e = c .before .before .before .before .before in
+    let p = runs-passed _ (good (start e)) (r (start e)) (e .if1 .left) in
+    runs-sum (good (start e)) (r (start e)) (p .1)
+
+pub runs-in-order-spec : {M : Type 1} → statement M
+runs-in-order-spec =
+    tie.close
+    (tie.spec
+    element-copy-out-if1
+    element-copy-out-if1-2
+    element-copy-out-if1-3
+    element-copy-out-if1-4
+    returns
+    element-copy-out-result
+    element-copy-out-result-2
+    mul-result
+    element-copy-out-result-3
+    add-result
+    element-copy-out-result-4
+    add-result-2
+    element-copy-out-result-5
+    add-result-3
+    returns-2)
