@@ -42,7 +42,13 @@ fn step(t: &mut Tally, piece: &[u8], area: &mut [u8]) -> (usize, bool) {
     }
     let run = if t.hunting { hunt(t, piece) } else { place(t, piece) };
     run.count(t);
-    let at = run.bytes + quiet(t, &piece[run.bytes..]);
+    let mut at = run.bytes;
+    if piece.get(at).is_some_and(|&b| b != SYNC) {
+        at += quiet(t, &piece[at..]);
+    }
+    if let Some(taken) = open_last(t, &piece[at..]) {
+        return (at + taken, false);
+    }
     match voted::take(t, &piece[at..]) {
         0 => {
             let (taken, complete) = next_group(t, &piece[at..], area);
@@ -50,6 +56,19 @@ fn step(t: &mut Tally, piece: &[u8], area: &mut [u8]) -> (usize, bool) {
         }
         taken => (at + taken, false),
     }
+}
+
+// The last bytes of a piece that ends within a group, from its SYNC on.
+fn open_last(t: &mut Tally, piece: &[u8]) -> Option<usize> {
+    match *piece {
+        [SYNC] => {}
+        [SYNC, first] => t.first = first,
+        [SYNC, first, second] => (t.first, t.second) = (first, second),
+        _ => return None,
+    }
+    t.bytes += piece.len() as u64;
+    t.open = piece.len() as u64;
+    Some(piece.len())
 }
 
 // How far nominal groups and FILL go, how many groups they are, and the last one's word.
@@ -112,12 +131,10 @@ fn hunt(t: &mut Tally, piece: &[u8]) -> Run {
 fn place(t: &mut Tally, piece: &[u8]) -> Run {
     let places = &mut t.frame[t.placed as usize..FRAME - 1];
     let mut run = Run::past_fill(piece);
-    // Sixteen at a time, one by one, and once more, since a sixth FILL comes once in a frame or so.
-    if piece.get(run.bytes..run.bytes + CELL).is_some_and(is_cell) {
-        let rows = copy_cell_rows(&piece[run.bytes..], places);
-        let cells = rows + copy_cells(&piece[run.bytes + CELL * rows..], &mut places[rows..]);
-        run.pass(piece, CELL, cells);
-        let cells = copy_cells(&piece[run.bytes..], &mut places[run.words..]);
+    // Sixteen at a time, one by one, and again behind a sixth FILL, which comes once in a frame or so.
+    while run.words < places.len() && piece.get(run.bytes..run.bytes + CELL).is_some_and(is_cell) {
+        let rows = copy_cell_rows(&piece[run.bytes..], &mut places[run.words..]);
+        let cells = rows + copy_cells(&piece[run.bytes + CELL * rows..], &mut places[run.words + rows..]);
         run.pass(piece, CELL, cells);
     }
     if run.words < places.len() {

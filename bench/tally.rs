@@ -9,6 +9,7 @@ pub const AREA: usize = 16_384;
 
 // The most that a count may be.
 const LIMIT: u64 = 1 << 40;
+const WIDE: u64 = 1 << 50;
 
 // A tally crosses as so many numbers and its frame.
 pub const NUMBERS: usize = 33;
@@ -85,24 +86,27 @@ impl Tally {
     // Papers 01 and 02: each count within the limit, the sums, and what goes with hunting, the operators and the rule.
     #[inline(never)]
     pub fn in_order(&self) -> bool {
-        let within = |counts: &[u64]| counts.iter().all(|&n| n <= LIMIT);
-        within(&[self.bytes, self.fill, self.stray, self.voted, self.split, self.hunted, self.good, self.damaged, self.unsynced])
-            && within(&[self.majors, self.broken, self.loose])
-            && within(&self.weak)
-            && within(&self.paid)
+        // All but the bytes are held to a wider bound, joined by `|`, so that no sum runs over; the sums hold them to the limit.
+        let narrow = |counts: &[u64]| counts.iter().fold(0, |all, n| all | n) <= WIDE;
+        self.bytes <= LIMIT
+            && narrow(&[self.fill, self.stray, self.voted, self.split])
             && self.open <= 3
+            && self.bytes == self.fill + self.stray + 4 * (self.voted + self.split) + self.open
+            && narrow(&self.weak)
+            && self.weak.iter().sum::<u64>() <= self.voted
+            && narrow(&[self.hunted, self.good, self.damaged, self.unsynced])
             && self.placed < FRAME as u64
-            && self.building < FRAME as u64
             && self.matched <= 2
+            && self.voted + self.split == self.hunted + FRAME as u64 * (self.good + self.damaged + self.unsynced) + self.placed
+            && narrow(&[self.majors, self.broken, self.loose])
+            && self.building < FRAME as u64
+            && self.good == FRAME as u64 * self.majors + self.broken + self.loose + self.building
+            && narrow(&self.paid)
+            && self.paid.iter().sum::<u64>() == self.majors
+            && self.duty < OPERATORS as u64
             && (self.hunting || self.matched == 0)
             && !(self.hunting && (self.placed != 0 || self.building != 0))
             && !(self.erasure && self.placed == 0)
-            && self.bytes == self.fill + self.stray + 4 * (self.voted + self.split) + self.open
-            && self.voted + self.split == self.hunted + FRAME as u64 * (self.good + self.damaged + self.unsynced) + self.placed
-            && self.good == FRAME as u64 * self.majors + self.broken + self.loose + self.building
-            && self.weak.iter().sum::<u64>() <= self.voted
-            && self.paid.iter().sum::<u64>() == self.majors
-            && self.duty < OPERATORS as u64
             && (self.rule == BY_BYTES || self.rule == BY_BITS && self.split == 0)
     }
 
