@@ -66,6 +66,11 @@ fn main() {
         }
     }
     println!();
+    println!("the proved reader in pieces of mixed lengths, half to one and a half of this one");
+    println!();
+    println!("{:>7} | {:>9} {:>8} | {:>8}", "piece", "five FILL", "as timed", "ratio");
+    print_mixed(mib);
+    println!();
     println!("reels as they come: steps that lock on a frame's own sync, beside calls of the proved reader on the same bytes");
     println!();
     println!("{:<12} {:>7} | {:>8} {:>8} | {:>8}", "stream", "piece", "steps", "calls", "ratio");
@@ -185,10 +190,10 @@ struct Left {
     paid: u64,
 }
 
-// Hands the bytes on in pieces; a call that stops at a major frame is followed by one with the rest of its piece.
-fn in_pieces(bytes: &[u8], piece: usize, mut take: impl FnMut(&[u8]) -> (usize, bool)) -> u64 {
+// Hands the pieces on; a call that stops at a major frame is followed by one with the rest of its piece.
+fn in_pieces<'a>(pieces: impl Iterator<Item = &'a [u8]>, mut take: impl FnMut(&[u8]) -> (usize, bool)) -> u64 {
     let mut paid = 0;
-    for piece in bytes.chunks(piece) {
+    for piece in pieces {
         let mut at = 0;
         while at < piece.len() {
             let (taken, complete) = take(&piece[at..]);
@@ -200,10 +205,14 @@ fn in_pieces(bytes: &[u8], piece: usize, mut take: impl FnMut(&[u8]) -> (usize, 
 }
 
 fn proved(bytes: &[u8], piece: usize, rule: u64) -> Left {
+    proved_in(bytes.chunks(piece), rule)
+}
+
+fn proved_in<'a>(pieces: impl Iterator<Item = &'a [u8]>, rule: u64) -> Left {
     let (refusal, mut state) = bridge::fresh(rule);
     assert_eq!(refusal, 0);
     let mut area = vec![0; AREA];
-    let paid = in_pieces(bytes, piece, |part| {
+    let paid = in_pieces(pieces, |part| {
         let answer = bridge::take(&mut state, part, &mut area);
         assert_eq!(answer.refusal, 0);
         (answer.taken as usize, answer.complete != 0)
@@ -232,7 +241,7 @@ fn stepped(bytes: &[u8], piece: usize) -> (u64, u64) {
 fn in_rust(bytes: &[u8], piece: usize, rule: u64, take: Take) -> Left {
     let mut t = Tally::fresh(rule);
     let mut area = vec![0; AREA];
-    let paid = in_pieces(bytes, piece, |part| take(&mut t, part, &mut area));
+    let paid = in_pieces(bytes.chunks(piece), |part| take(&mut t, part, &mut area));
     Left { state: State::of(&t), area, paid }
 }
 
@@ -288,6 +297,34 @@ fn print_steps(name: &str, bytes: &[u8], piece: usize) {
     let speed = |time: f64| bytes.len() as f64 / time / 1e6;
     let piece = if piece == bytes.len() { "whole".to_string() } else { piece.to_string() };
     println!("{name:<12} {piece:>7} | {:>8.0} {:>8.0} | {:>8.2}", speed(steps), speed(calls), calls / steps);
+}
+
+// Pieces of half to one and a half of this length.
+fn mixed(bytes: &[u8], piece: usize) -> Vec<&[u8]> {
+    let mut r = Random(5);
+    let (mut pieces, mut rest) = (Vec::new(), bytes);
+    while !rest.is_empty() {
+        let (next, later) = rest.split_at((piece / 2 + r.below(piece)).min(rest.len()));
+        pieces.push(next);
+        rest = later;
+    }
+    pieces
+}
+
+// The book's spacing beside five FILL, where no two pieces end alike: of pieces of one length five FILL makes a cycle that the processor learns.
+fn print_mixed(mib: usize) {
+    let streams = ["five FILL", "as timed"].map(|name| stream_of(name, mib * MIB));
+    for piece in [65_536, 4096, 300] {
+        let pieces = [mixed(&streams[0], piece), mixed(&streams[1], piece)];
+        let mut best = [f64::INFINITY; 2];
+        for _ in 0..ROUNDS {
+            for (pieces, best) in pieces.iter().zip(&mut best) {
+                *best = best.min(seconds(|| proved_in(pieces.iter().copied(), BY_BYTES)).1);
+            }
+        }
+        let [five, timed] = [0, 1].map(|k| streams[k].len() as f64 / best[k] / 1e6);
+        println!("{piece:>7} | {five:>9.0} {timed:>8.0} | {:>8.2}", timed / five);
+    }
 }
 
 fn held(ok: bool, what: &str) {
