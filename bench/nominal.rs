@@ -173,7 +173,8 @@ fn copy_cell_rows(piece: &[u8], places: &mut [u8]) -> usize {
     let mut words = 0;
     for places in places.chunks_exact_mut(ROW) {
         match piece.get(CELL * words..CELL * (words + ROW) + 1) {
-            Some(row) if is_cell_row(row.try_into().unwrap()) => {
+            // Where no SYNC stands after them, a sixth FILL is among them as a rule.
+            Some(row) if row[CELL * ROW] == SYNC && is_cell_row(row.try_into().unwrap()) => {
                 for (place, cell) in places.iter_mut().zip(row.chunks_exact(CELL)) {
                     *place = cell[1];
                 }

@@ -35,14 +35,25 @@ loop-holds c =
     let s = c .before .before .before in
     record { turns = 0; at-is = omega arith; place-is = omega arith; stored = stored-none (s .args .from) (s .args .start) (now (s .args .frame)) }
 
-are-cells-requires : tie.Need-are-cells-requires Inv-loop μ-loop
-are-cells-requires c κs = omega arith
+add-if1 : tie.Need-add-if1 Inv-loop μ-loop
+add-if1 c = omega arith
+
+shared-slice-read-if1 : tie.Need-shared-slice-read-if1 Inv-loop μ-loop
+shared-slice-read-if1 c = omega arith
 
 returns : tie.Need-returns Inv-loop μ-loop
 returns c = c .before .before .before .loop .inv .stored
 
+are-cells-requires : tie.Need-are-cells-requires Inv-loop μ-loop
+are-cells-requires c κs = omega arith
+
+returns-2 : tie.Need-returns-2 Inv-loop μ-loop
+returns-2 c =
+    let aligned = c .before .before in
+    aligned .before .before .before .loop .inv .stored
+
 put-cells-requires : tie.Need-put-cells-requires Inv-loop μ-loop
-put-cells-requires c κs = (c .before .before .are-cells .ensures (not-false _ (c .before .if1 .left)), omega arith)
+put-cells-requires c κs = (c .before .before .are-cells .ensures (not-false _ (c .before .if2 .left)), omega arith)
 
 add-p : tie.Need-add-p Inv-loop μ-loop
 add-p c = omega arith
@@ -56,7 +67,8 @@ loop-less c = omega arith
 loop-again : tie.Need-loop-again Inv-loop μ-loop
 loop-again c =
     let asked = c .before .before .before in
-    let k = asked .before .before .loop in
+    let aligned = asked .before in
+    let k = aligned .before .before .before .loop in
     record {
       turns = k .inv .turns + 1;
       at-is = omega arith;
@@ -64,8 +76,8 @@ loop-again c =
       stored = stored-join (k .inv .stored) (c .put-cells .ensures);
     }
 
-returns-2 : tie.Need-returns-2 Inv-loop μ-loop
-returns-2 c = c .before .loop .inv .stored
+returns-3 : tie.Need-returns-3 Inv-loop μ-loop
+returns-3 c = c .before .loop .inv .stored
 
 pub cell-rows-spec : {M : Type 1} → statement M
 cell-rows-spec =
@@ -79,11 +91,14 @@ cell-rows-spec =
     mul-stop-of
     stop-of-requires
     loop-holds
-    are-cells-requires
+    add-if1
+    shared-slice-read-if1
     returns
+    are-cells-requires
+    returns-2
     put-cells-requires
     add-p
     add-at
     loop-less
     loop-again
-    returns-2)
+    returns-3)
