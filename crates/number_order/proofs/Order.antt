@@ -24,9 +24,9 @@ use Rattle.number_order.proofs.Joined.{equal}
 use Rattle.number_order.proofs.Sums.{GroupsFit, groups-fit, FramingFits, framing-fits, RunsFit, runs-fit}
 
 -- counts whose sum is within the limit
-each-within : (l : List ℕ) → sumBy (λ k. k) l ≤ 2 ^ 40 → T (every within l)
-each-within [] h = tt
-each-within (a ∷ l) h = and-i (within a) (every within l) (le→leb a (2 ^ 40) (omega arith)) (each-within l (omega arith))
+all-within : (l : List ℕ) → sumBy (λ k. k) l ≤ 2 ^ 40 → T (every within l)
+all-within [] h = tt
+all-within (a ∷ l) h = and-i (within a) (every within l) (le→leb a (2 ^ 40) (omega arith)) (all-within l (omega arith))
 
 -- each layer's counts
 groups-bounded : (g : Groups) → GroupsFit g → g .weak .first + g .weak .second + g .weak .third ≤ g .voted → T (groupsBounded g)
@@ -99,7 +99,7 @@ module _ (t : Tally) (eight : length (t .operators .paid) ≡ 8) where
       let groups-within = groups-bounded (t .groups) g few in
       let framing-within = framing-bounded words (t .framing) (omega arith) f in
       let runs-within = runs-bounded (t .framing .good) (t .runs) (omega arith) r in
-      let paid-within = each-within (t .operators .paid) (omega arith) in
+      let paid-within = all-within (t .operators .paid) (omega arith) in
       let count = passes (eqb (length (t .operators .paid)) 8) (eq-eqb (length (t .operators .paid)) 8 eight) in
       search and-i depth 6
 

@@ -12,13 +12,21 @@ use Rattle.in_place.proofs.put_layers.Statement.{statement}
 use Rattle.in_place.proofs.put_layers.Tie as tie
 
 module _ (c : tie.After-put-counts) where
+  -- the operators are read, before the layers are taken apart
+  abbrev read : tie.After-operators-of
+  read =
+      let apart = c .before .before in
+      let grouped = apart .before .before in
+      grouped .before
+
   abbrev start : tie.Start
-  start = let read = c .before .before .before .before .before in read .before .before .before .before
+  start =
+      let ruled = read .before .before in
+      ruled .before .before
 
   -- what is put back before the payment
   put-back : c .put-counts .last .1 .1 .1 .1 .1 .0 ≡ withLayers (now (start .args .n)) (start .args .l) (operatorsOf (now (start .args .n)))
   put-back =
-      let read = c .before .before .before .before .before in
       c .put-counts .ensures ∙ ap (withLayers (now (start .args .n)) (start .args .l)) (read .operators-of .ensures)
 
 element-copy-out-place : tie.Need-element-copy-out-place

@@ -15,9 +15,38 @@ good s = framingOf (now (s .args .n)) .good
 abbrev r : tie.Start → Runs
 r s = runsOf (now (s .args .n))
 
+-- the start, after so many numbers of the test were read
+abbrev read1 : tie.After-if12 → tie.Start
+read1 t = t .before
+
+abbrev read2 : tie.After-if13 → tie.Start
+read2 t = read1 (t .before)
+
+abbrev read3 : tie.After-if14 → tie.Start
+read3 t = read2 (t .before)
+
+abbrev read4 : tie.After-if15 → tie.Start
+read4 t = read3 (t .before)
+
 -- where the test before the sum has passed
 abbrev start : tie.Else1 → tie.Start
-start e = e .before .before .before .before .before
+start e = read4 (e .before)
+
+-- and the test, after so many numbers of the sum
+abbrev sum1 : tie.After-result → tie.Else1
+sum1 t = t .before
+
+abbrev sum2 : tie.After-result2 → tie.Else1
+sum2 t = sum1 (t .before)
+
+abbrev sum3 : tie.After-result3 → tie.Else1
+sum3 t = sum2 (t .before)
+
+abbrev sum4 : tie.After-result4 → tie.Else1
+sum4 t = sum3 (t .before)
+
+abbrev sum5 : tie.After-result5 → tie.Else1
+sum5 t = sum4 (t .before)
 
 element-copy-out-if1 : tie.Need-element-copy-out-if1
 element-copy-out-if1 c = search needs
@@ -32,7 +61,7 @@ element-copy-out-if1-4 : tie.Need-element-copy-out-if1-4
 element-copy-out-if1-4 c = search needs
 
 returns : tie.Need-returns
-returns c = let s = c .before .before .before .before .before in runs-refused _ (good s) (r s) (omega arith) (c .if1 .taken)
+returns c = let s = read4 (c .before) in runs-refused _ (good s) (r s) (omega arith) (c .if1 .taken)
 
 element-copy-out-result : tie.Need-element-copy-out-result
 element-copy-out-result c = search needs
@@ -41,32 +70,32 @@ element-copy-out-result-2 : tie.Need-element-copy-out-result-2
 element-copy-out-result-2 c = search needs
 
 mul-result : tie.Need-mul-result
-mul-result c = let e = c .before .before in let p = runs-passed _ (good (start e)) (r (start e)) (e .if1 .left) in omega arith
+mul-result c = let e = sum2 c in let p = runs-passed _ (good (start e)) (r (start e)) (e .if1 .left) in omega arith
 
 element-copy-out-result-3 : tie.Need-element-copy-out-result-3
 element-copy-out-result-3 c = search needs
 
 add-result : tie.Need-add-result
-add-result c = let e = c .before .before .before in let p = runs-passed _ (good (start e)) (r (start e)) (e .if1 .left) in omega arith
+add-result c = let e = sum3 c in let p = runs-passed _ (good (start e)) (r (start e)) (e .if1 .left) in omega arith
 
 element-copy-out-result-4 : tie.Need-element-copy-out-result-4
 element-copy-out-result-4 c = search needs
 
 add-result-2 : tie.Need-add-result-2
-add-result-2 c = let e = c .before .before .before .before in let p = runs-passed _ (good (start e)) (r (start e)) (e .if1 .left) in omega arith
+add-result-2 c = let e = sum4 c in let p = runs-passed _ (good (start e)) (r (start e)) (e .if1 .left) in omega arith
 
 element-copy-out-result-5 : tie.Need-element-copy-out-result-5
 element-copy-out-result-5 c = search needs
 
 add-result-3 : tie.Need-add-result-3
 add-result-3 c =
-    let e = c .before .before .before .before .before in
+    let e = sum5 c in
     let p = runs-passed _ (good (start e)) (r (start e)) (e .if1 .left) in
     omega arith
 
 returns-2 : tie.Need-returns-2
 returns-2 c =
-    let e = c .before .before .before .before .before in
+    let e = sum5 c in
     let p = runs-passed _ (good (start e)) (r (start e)) (e .if1 .left) in
     runs-sum (good (start e)) (r (start e)) (p .1)
 

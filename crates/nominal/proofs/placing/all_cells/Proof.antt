@@ -17,8 +17,9 @@ cells-requires c κs = c .before .cell-rows .ensures .room (omega arith)
 
 returns : tie.Need-returns
 returns c =
-    let rowed = c .before .before .cell-rows in
-    let s = c .before .before .before .before .before in
+    let ran = c .before .before in
+    let rowed = ran .cell-rows in
+    let s = ran .before .before .before in
     let p = now (s .args .piece) in
     let rows = rowed .ensures in
     let one = c .cells .ensures in (
