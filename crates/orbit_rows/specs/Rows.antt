@@ -5,7 +5,7 @@ use Prim.Native.String.{String}
 use Rattle.base.specs.Lists.{concat_map}
 use Rattle.command.specs.Lines.{line_in}
 use Rattle.command.specs.Text.{ascii, decimal}
-use Rattle.csv.specs.Fields.{number_field, integer_text}
+use Rattle.csv_fields.specs.Fields.{number_field, integer_text}
 use Rattle.double_text.specs.Decimal.{double_text}
 use Rattle.orbit_rows.specs.declared.Row.{Row}
 

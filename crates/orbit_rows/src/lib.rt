@@ -3,7 +3,7 @@ ghost use Rattle.command.specs.Text.{Adds};
 ghost use Rattle.orbit_rows.specs.Rows.{pair_text, date_text, clock_text, when_text, refusal_text, start_text, end_text, double_row, integer_row};
 
 use command::{put, put_byte, put_number};
-use csv::put_number_field;
+use csv_fields::put_number_field;
 
 // Which record a value is of: its cycle and major frame; its refusal, 0 for none; its year, and its instant, 0 where it has none.
 #[derive(Drop)]
@@ -79,7 +79,7 @@ pub fn put_integer_row(out: &mut [u8], at: usize, row: Row, name: usize, value: 
     if row.refusal != 0 {
         return put_end(out, begun, row);
     }
-    let told = csv::put_integer(&mut *out, begun, value);
+    let told = csv_fields::put_integer(&mut *out, begun, value);
     put_end(out, told, row)
 }
 

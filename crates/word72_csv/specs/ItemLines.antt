@@ -14,7 +14,7 @@ use Rattle.word72_column.specs.Columns.{column_kind}
 use Rattle.subcom.specs.Parts.{part_of}
 use Rattle.subcom.specs.Readings.{reading}
 use Rattle.command.specs.Text.{ascii, decimal}
-use Rattle.csv.specs.Fields.{csv_field, number_field}
+use Rattle.csv_fields.specs.Fields.{csv_field, number_field}
 use Rattle.word72_descriptions.specs.Descriptions.{description}
 use Rattle.word72_csv.specs.Values.{reading_text, refused_text}
 

@@ -9,7 +9,7 @@ use Rattle.word72_reading.specs.declared.Reading.{Reading}
 use Rattle.word72_reading.specs.declared.Reading.TheVariants.{Count, Flags, Number, Time, Fill, Refused}
 use Rattle.command.specs.Text.{ascii, decimal}
 use Rattle.command.specs.Words.{refusal_words}
-use Rattle.csv.specs.Fields.{number_field}
+use Rattle.csv_fields.specs.Fields.{number_field}
 use Rattle.double_text.specs.Decimal.{double_text}
 use Rattle.instant_text.specs.Instants.{clock_text}
 

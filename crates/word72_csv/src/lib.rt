@@ -8,7 +8,7 @@ ghost use Rattle.command.specs.Text.{Adds};
 ghost use Rattle.word72_csv.specs.ItemLines.{frame_text, item_lines, count_in, item_line, place_text, form_text, form_line, refused_frame};
 
 use command::{put, put_number};
-use csv::put_number_field;
+use csv_fields::put_number_field;
 use subcom::{ColumnKind, Description, Form, Item, ItemCount};
 
 // The names of the fields.

@@ -6,7 +6,7 @@ ghost use Rattle.word72_csv.specs.Values.{reading_text, count_text, flags_text, 
 ghost use Rattle.word72_csv.specs.Values.{no_more, hex_text, hex_byte, bit_glyph};
 
 use command::{put, put_byte, put_field, put_words};
-use csv::put_number_field;
+use csv_fields::put_number_field;
 use instant_text::put_clock;
 use subcom::{EightFlags, Reading};
 use time_code::TimeCode;

@@ -2,7 +2,7 @@
 // several rows of one value what they share is taken.
 ghost use Rattle.std.specs.Prelude.{◌≡◌};
 ghost use Rattle.command.specs.Text.{Adds};
-ghost use Rattle.csv.specs.Fields.{csv_field};
+ghost use Rattle.csv_fields.specs.Fields.{csv_field};
 ghost use Rattle.word72_descriptions.specs.Descriptions.{first_line, line_of, description};
 
 const DESCRIPTIONS: [u8; 3706] = *b"\
@@ -181,7 +181,7 @@ pub fn put_description(out: &mut [u8], at: usize, kind: u64, item: u64) -> usize
     ensures { Adds out.old at (csv_field (description kind item)) out.new result }
 {
     let table = &DESCRIPTIONS;
-    csv::put_csv_field(out, at, command::line(table, line_of(kind, item)))
+    csv_fields::put_csv_field(out, at, command::line(table, line_of(kind, item)))
 }
 
 // The line of an item's description.

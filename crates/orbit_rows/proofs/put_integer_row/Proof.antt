@@ -3,7 +3,7 @@ use mathlib.Core.Path.{sym, ap, ◌∙◌}
 use lib.IntN.{ℤ}
 use mir.Facts.{to_z-of_z}
 use Rattle.command.proofs.TextLaws.{adds_append}
-use Rattle.csv.specs.Fields.{integer_text}
+use Rattle.csv_fields.specs.Fields.{integer_text}
 use Rattle.orbit_rows.specs.Rows.{row_text}
 use Rattle.orbit_rows.proofs.Laws.{text_is, refused-row, told-row}
 use borrow.Author.Rules.{rules}

@@ -17,7 +17,7 @@ use mir.Val.{to_z, of_z}
 use Rattle.base.proofs.Lists.{concat_map-append}
 use Rattle.io.specs.Counts.{IsPrefixLen}
 use Rattle.command.specs.Text.{Adds, ascii, decimal}
-use Rattle.csv.specs.Fields.{is_special, is_plain, quoted, doubled, integer_text}
+use Rattle.csv_fields.specs.Fields.{is_special, is_plain, quoted, doubled, integer_text}
 use Rattle.command.proofs.TextLaws.{adds_append, adds_within}
 
 module _ (text : List ℕ) (i : ℕ) (h : i < length text) where

@@ -1,9 +1,9 @@
--- `csv::put_csv_field` meets its contract: as it is, or in quotes. Assumes nothing.
+-- `csv_fields::put_csv_field` meets its contract: as it is, or in quotes. Assumes nothing.
 use mathlib.Core.Path.{sym, ◌∙◌}
 use borrow.Author.Rules.{rules}
 use Rattle.command.proofs.TextLaws.{adds_append}
-use Rattle.csv.proofs.put_csv_field.Statement.{statement}
-use Rattle.csv.proofs.put_csv_field.Tie as tie
+use Rattle.csv_fields.proofs.put_csv_field.Statement.{statement}
+use Rattle.csv_fields.proofs.put_csv_field.Tie as tie
 
 is_plain-requires : tie.Need-is-plain-requires
 is_plain-requires c κs = search rules

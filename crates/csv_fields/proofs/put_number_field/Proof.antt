@@ -1,8 +1,8 @@
--- `csv::put_number_field` meets its contract: one part behind the other. Assumes nothing.
+-- `csv_fields::put_number_field` meets its contract: one part behind the other. Assumes nothing.
 use borrow.Author.Rules.{rules}
 use Rattle.command.proofs.TextLaws.{adds_append}
-use Rattle.csv.proofs.put_number_field.Statement.{statement}
-use Rattle.csv.proofs.put_number_field.Tie as tie
+use Rattle.csv_fields.proofs.put_number_field.Statement.{statement}
+use Rattle.csv_fields.proofs.put_number_field.Tie as tie
 
 put-byte_requires : tie.Need-put-byte-requires
 put-byte_requires c κs = search rules

@@ -1,11 +1,11 @@
--- `csv::magnitude` meets its contract. Assumes nothing.
+-- `csv_fields::magnitude` meets its contract. Assumes nothing.
 use native.Mathlib.Omega.{arith}
 use lib.Signed.{nat_abs-le}
 use mir.Facts.{to_z-of_z}
 use borrow.Author.Rules.{rules}
-use Rattle.csv.proofs.Laws.{test_is, inverted, one_more, not_negative}
-use Rattle.csv.proofs.magnitude.Statement.{statement}
-use Rattle.csv.proofs.magnitude.Tie as tie
+use Rattle.csv_fields.proofs.Laws.{test_is, inverted, one_more, not_negative}
+use Rattle.csv_fields.proofs.magnitude.Statement.{statement}
+use Rattle.csv_fields.proofs.magnitude.Tie as tie
 
 cast_result : tie.Need-overflow-cast-result
 cast_result c =

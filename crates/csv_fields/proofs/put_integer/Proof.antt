@@ -1,11 +1,11 @@
--- `csv::put_integer` meets its contract. Assumes nothing.
+-- `csv_fields::put_integer` meets its contract. Assumes nothing.
 use mathlib.Core.Path.{ap, ◌∙◌}
 use lib.IntN.{nat_abs}
 use mir.Facts.{to_z-of_z}
 use borrow.Author.Rules.{rules}
-use Rattle.csv.proofs.Laws.{test_is, negative_text, positive_text}
-use Rattle.csv.proofs.put_integer.Statement.{statement}
-use Rattle.csv.proofs.put_integer.Tie as tie
+use Rattle.csv_fields.proofs.Laws.{test_is, negative_text, positive_text}
+use Rattle.csv_fields.proofs.put_integer.Statement.{statement}
+use Rattle.csv_fields.proofs.put_integer.Tie as tie
 
 slice_aggregate_put_field : tie.Need-slice-aggregate-put-field
 slice_aggregate_put_field c = search rules

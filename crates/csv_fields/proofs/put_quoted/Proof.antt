@@ -1,9 +1,9 @@
--- `csv::put_quoted` meets its contract: a quote twice, another byte once. Assumes nothing.
+-- `csv_fields::put_quoted` meets its contract: a quote twice, another byte once. Assumes nothing.
 use borrow.Author.Rules.{rules}
 use borrow.Author.Tests.{eq-eqb, ne_eqb}
 use Rattle.command.proofs.TextLaws.{adds_append}
-use Rattle.csv.proofs.put_quoted.Statement.{statement}
-use Rattle.csv.proofs.put_quoted.Tie as tie
+use Rattle.csv_fields.proofs.put_quoted.Statement.{statement}
+use Rattle.csv_fields.proofs.put_quoted.Tie as tie
 
 put-byte_requires : tie.Need-put-byte-requires
 put-byte_requires c κs = search rules

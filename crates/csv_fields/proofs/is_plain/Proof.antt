@@ -1,12 +1,12 @@
--- `csv::is_plain` meets its contract: no byte so far needs quotes. Assumes nothing.
+-- `csv_fields::is_plain` meets its contract: no byte so far needs quotes. Assumes nothing.
 use mathlib.Core.Path.{◌≡◌, refl, sym, ◌∙◌}
 use Prim.Native.Nat.{◌-◌, ◌≤◌}
 use native.Mathlib.Omega.{arith}
 use lib.ListN.{length, drop}
-use Rattle.csv.specs.Fields.{is_plain}
-use Rattle.csv.proofs.Laws.{plain_goes_on, special_ends, plain_ends}
-use Rattle.csv.proofs.is_plain.Statement.{statement}
-use Rattle.csv.proofs.is_plain.Tie as tie
+use Rattle.csv_fields.specs.Fields.{is_plain}
+use Rattle.csv_fields.proofs.Laws.{plain_goes_on, special_ends, plain_ends}
+use Rattle.csv_fields.proofs.is_plain.Statement.{statement}
+use Rattle.csv_fields.proofs.is_plain.Tie as tie
 
 abbrev invariant-loop : tie.invariant-loop
 invariant-loop text i₀ i = (i ≤ length text) × (is_plain text ≡ is_plain (drop i text))

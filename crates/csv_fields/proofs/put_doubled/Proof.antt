@@ -1,4 +1,4 @@
--- `csv::put_doubled` meets its contract: so much of the text is put within quotes as was passed. Assumes nothing.
+-- `csv_fields::put_doubled` meets its contract: so much of the text is put within quotes as was passed. Assumes nothing.
 use mathlib.Core.Path.{refl, ◌∙◌}
 use Prim.Native.Nat.{◌≤◌, ◌-◌}
 use native.Mathlib.Omega.{arith}
@@ -6,10 +6,10 @@ use lib.ListN.{length, take}
 use lib.Seq.{take_all}
 use Rattle.command.specs.Text.{Adds}
 use Rattle.command.proofs.TextLaws.{adds_append}
-use Rattle.csv.specs.Fields.{doubled}
-use Rattle.csv.proofs.Laws.{doubles_none, doubles_one_more}
-use Rattle.csv.proofs.put_doubled.Statement.{statement}
-use Rattle.csv.proofs.put_doubled.Tie as tie
+use Rattle.csv_fields.specs.Fields.{doubled}
+use Rattle.csv_fields.proofs.Laws.{doubles_none, doubles_one_more}
+use Rattle.csv_fields.proofs.put_doubled.Statement.{statement}
+use Rattle.csv_fields.proofs.put_doubled.Tie as tie
 
 abbrev invariant-loop : tie.invariant-loop
 invariant-loop out₀ at text end₀ i₀ out end i = (i ≤ length text) × Adds out₀ end₀ (doubled (take i text)) out end
