@@ -2,7 +2,7 @@
 ghost use Rattle.command.specs.Files.{FillPromise, SomePromise};
 
 // How far a room is filled, and whether a read failed before the file ended.
-#[derive(Drop)]
+#[derive(Clone, Copy)]
 pub struct Filled {
     pub length: usize,
     pub failed: bool,
