@@ -1,5 +1,7 @@
 // What the programs share: text in a lent buffer, numbers and refusals as text, the bytes of a file, what is said on standard error, and how a
 // program ends.
+#![tactic(auto)]
+
 mod books;
 mod ending;
 mod files;

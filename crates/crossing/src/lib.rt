@@ -1,5 +1,7 @@
 // A tally as it crosses to programs in other languages: its numbers and the frame's 128 bytes, which the caller lends. An entry works
 // on them in place. No number is cut: numbers that are no tally's are refused as a tally not in order is.
+#![tactic(auto)]
+
 mod duty;
 mod lock;
 

@@ -1,5 +1,7 @@
 // Cycles from the major frames of standard input: what the programs over cycles share. What is left out is said on standard error, each line after the
 // program's name.
+#![tactic(auto)]
+
 ghost use Rattle.std.specs.Prelude.{◌≡◌, false};
 ghost use Rattle.command.specs.Text.{Adds};
 ghost use Rattle.cycle_input.specs.Reading.{ReadPromise, frames_text};

@@ -1,6 +1,8 @@
 // Writes a book of the cycles that the major frames of standard input give. Of the arguments from the second on, each pair is a year and how many cycles
 // there is room for; the first names the descriptor for the status. Standard input is read to its end for the first pair. Status 1 where a cycle is
 // left out, or where standard input or the book cannot be read or written whole.
+#![tactic(auto)]
+
 mod gathering;
 mod writing;
 

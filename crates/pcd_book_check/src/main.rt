@@ -1,5 +1,7 @@
 // Checks the books that the arguments name from the second on; the first names the descriptor for the status. For each a line says yes, or the
 // fault and its entry in words. Status 1 where a book is not accepted or cannot be read.
+#![tactic(auto)]
+
 mod verdict;
 
 use command::{LARGE_ROOM, Room, SMALL_ROOM};

@@ -1,6 +1,8 @@
 // Compares books: of the arguments from the second on, each pair is two books; the first names the descriptor for the status. The lines by which
 // they differ go to standard output, by rising instant. Status 0 where they are equal, 1 where they differ, 2 where a book is refused, cannot be
 // read, or the lines cannot be written.
+#![tactic(auto)]
+
 mod differences;
 
 ghost use Rattle.io.specs.Counts.{IsPrefixLen};

@@ -1,5 +1,7 @@
 // Looks instants up in books: of the arguments from the second on, each pair is a book and an instant; the first names the descriptor for the
 // status. A line says the last cycle at or before the instant, its place and the looks. Status 1 where a book or an instant cannot be used.
+#![tactic(auto)]
+
 mod answer;
 
 use command::{LARGE_ROOM, Parsed, Room, SMALL_ROOM};

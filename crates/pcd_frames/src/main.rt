@@ -1,6 +1,8 @@
 // Writes the paid major frames of a reel to standard output, 16,384 bytes each, in order. Arguments: the descriptor for the status; `strict` for 01's
 // rules alone; the file of the operators, or nothing; and the reel's files, of which `-` is standard input. The tally, the lead-ins and, where operators
 // were named, their paid counts go to standard error at the end. Status 1 where a file cannot be read, the bytes are refused, or a frame cannot be written.
+#![tactic(auto)]
+
 mod progress;
 mod report;
 

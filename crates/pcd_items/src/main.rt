@@ -1,6 +1,8 @@
 // Writes the items of word 72 of the major frames of standard input, 16,384 bytes each, as comma-separated values with a header. The first argument
 // names the descriptor for the status, the second the year that the frames were recorded in. Status 1 where it is no such year, where the input
 // cannot be read, where a rest is no whole frame, and where a line cannot be written.
+#![tactic(auto)]
+
 ghost use Rattle.io.specs.Counts.{IsPrefixLen};
 
 use base::{format, refusal};

@@ -1,6 +1,8 @@
 // Writes a map of a reel to standard output, as SVG: what each stretch of it gave. Arguments: the descriptor for the status; `strict` for 01's rules
 // alone; and the reel's files, of which `-` is standard input. Status 1 where a file cannot be read, the bytes are refused, or the map cannot be
 // written.
+#![tactic(auto)]
+
 mod picture;
 
 use picture::Told;

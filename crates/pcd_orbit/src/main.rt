@@ -1,6 +1,8 @@
 // Writes the records of the cycles that the major frames of standard input give, as comma-separated values, a line for each value. The second argument
 // is the year; the first names the descriptor for the status. Status 1 where standard input cannot be read, or ends within a frame, and where a line
 // cannot be written.
+#![tactic(auto)]
+
 mod records;
 
 const HEADER: [u8; 101] =

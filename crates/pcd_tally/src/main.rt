@@ -1,5 +1,7 @@
 // Reads standard input to its end and writes the tally of its bytes. Where the input cannot be read to its end, has more than 2^40
 // bytes, or the tally cannot be written, a line on standard error says so, and no tally is written.
+#![tactic(auto)]
+
 ghost use Rattle.std.specs.Prelude.{◌≡◌};
 ghost use Rattle.pcd_tally.specs.Reading.{blank, ReadSoFar, FedPromise, TookPromise, TurnPromise, TallyOf, is_more, AllPromise};
 

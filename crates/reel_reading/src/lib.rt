@@ -1,5 +1,7 @@
 // A reel from files, for programs: what comes next of it, one thing at a time. The files that the arguments name are read one after the other, as one
 // reel, locked on its frames' own sync or, strictly, by 01's rules alone.
+#![tactic(auto)]
+
 mod files;
 
 ghost use Rattle.std.specs.Prelude.{◌≡◌, true, List, ℕ, ◌+◌, ◌^◌, ◌≤◌, ◌<◌, length};

@@ -1,4 +1,6 @@
 // Where the reading of a reel stands, and how a step on a piece of it changes that: a leaf for `reel_reading`.
+#![tactic(auto)]
+
 ghost use Rattle.std.specs.Prelude.{◌≡◌, true, false, ◌≤◌};
 ghost use Rattle.base.specs.Lists.{one};
 ghost use Rattle.reel_state.specs.Reading.{Room, SteppedPromise, is_complete, Keeps};

@@ -1,4 +1,6 @@
 // Who is on duty from which byte of a reel on: a text with a line `BYTE OPERATOR` for each shift, by rising bytes.
+#![tactic(auto)]
+
 ghost use Rattle.std.specs.Prelude.{◌≤◌, length};
 ghost use Rattle.command.specs.Text.{Adds};
 ghost use Rattle.io.specs.Counts.{IsPrefixLen};

@@ -1,4 +1,6 @@
 // The year that an argument of a program names.
+#![tactic(auto)]
+
 ghost use Rattle.std.specs.Prelude.{◌≡◌};
 ghost use Rattle.year_argument.specs.Years.{YearPromise, year_in};
 
