@@ -7,7 +7,7 @@ mod lock;
 
 ghost use Rattle.crossing.specs.Crossing.{lent, TakeCrossed, FreshCrossed};
 
-pub use duty::change_duty;
+pub use crate::duty::change_duty;
 pub use lock::take_to_lock;
 use tally_numbers::{NUMBERS, flag, put_tally};
 
