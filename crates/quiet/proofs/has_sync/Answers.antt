@@ -1,6 +1,5 @@
 use mathlib.Core.Path.{◌≡◌, refl, sym, ap, ◌∙◌}
-use mathlib.Core.Logic.{⊎_elim}
-use Prim.Native.Nat.{ℕ, ◌+◌, ◌-◌, ◌≤◌}
+use Prim.Native.Nat.{ℕ, ◌+◌}
 use native.Mathlib.Omega.{arith}
 use lib.Dec.{ltb}
 use lib.ListN.{get_or}
@@ -10,6 +9,7 @@ use Rattle.base.specs.Lists.{one, count_by}
 use Rattle.quiet.specs.Quiet.{block, is_sync}
 use Rattle.quiet.proofs.Joining.{count-more}
 use Rattle.quiet.proofs.has_sync.Goals as goal
+use Rattle.quiet.proofs.has_sync.Goals.{then-piece-at-eq-SYNC, else-piece-at-eq-SYNC}
 
 pub loop-i-init : goal.loop-i-init
 loop-i-init c = (refl, omega arith)
@@ -34,15 +34,17 @@ loop-i-preserved c =
     let b = get_or p (a.at + k.i) 0 in
     let n = count_by is_sync (block p a.at k.i) in
     let n' = count_by is_sync (block p a.at (k.i + 1)) in
-    let more = count-more p a.at is_sync k.i (omega arith) in (
-      ⊎_elim (λ w. w.1 ∙ sym (lt-ltb 0 n' (omega (arith, more, ap one (eq-eqb b SYNC (omega (arith, w.0.taken)))))))
-          (λ w.
-          let other = ne_eqb b SYNC (λ e. omega (arith, w.0.left)) in
+    let more = count-more p a.at is_sync k.i (omega arith) in
+    elim c.if-piece-at-eq-SYNC.branch [
+      | then-piece-at-eq-SYNC w ↦ (
+        w.found-is ∙ sym (lt-ltb 0 n' (omega (arith, more, ap one (eq-eqb b SYNC (omega (arith, w.if-piece-at-eq-SYNC.true)))))),
+        omega arith,
+      )
+      | else-piece-at-eq-SYNC w ↦
+          let other = ne_eqb b SYNC (λ e. omega (arith, w.if-piece-at-eq-SYNC.false)) in
           let same : n ≡ n' = omega (arith, more, ap one other) in
-          w.1 ∙ k.invariant.0 ∙ ap (λ (m : ℕ). ltb 0 m) same)
-          c.if-piece-at-eq-SYNC.branch,
-      omega arith,
-    )
+          (w.found-is ∙ k.invariant.0 ∙ ap (λ (m : ℕ). ltb 0 m) same, omega arith)
+    ]
 
 pub returns : goal.returns
 returns c =

@@ -1,7 +1,6 @@
 use mathlib.Core.Path.{◌≡◌, refl, ap, ◌∙◌}
 use mathlib.Core.Bool.{Bool, not}
-use mathlib.Core.Logic.{⊎_elim}
-use Prim.Native.Nat.{ℕ, ◌+◌, ◌-◌, ◌≤◌}
+use Prim.Native.Nat.{ℕ, ◌+◌}
 use native.Mathlib.Omega.{arith}
 use lib.ListN.{get_or}
 use borrow.Author.Tests.{eq-eqb, ne_eqb}
@@ -10,6 +9,7 @@ use Rattle.base.specs.Lists.{one, count_by}
 use Rattle.quiet.specs.Quiet.{block, not_fill}
 use Rattle.quiet.proofs.Joining.{count-more}
 use Rattle.quiet.proofs.not_fill.Goals as goal
+use Rattle.quiet.proofs.not_fill.Goals.{then-piece-at-ne-FILL, else-piece-at-ne-FILL}
 
 -- what the test of one byte for FILL adds
 abbrev counted : Bool → ℕ
@@ -40,10 +40,18 @@ loop-i-preserved c =
     let p = a.piece.now in
     let b = get_or p (a.at + k.i) 0 in
     let more = count-more p a.at not_fill k.i (omega arith) in
-    ⊎_elim
-    (λ w. (omega (arith, more, ap counted (ne_eqb b FILL (λ e. omega (arith, w.0.taken))), w.1, k.invariant.0), omega (arith, w.1), omega arith))
-    (λ w. (omega (arith, more, ap counted (eq-eqb b FILL (omega (arith, w.0.left))), w.1, k.invariant.0), omega (arith, w.1), omega arith))
-    c.if-piece-at-ne-FILL.branch
+    elim c.if-piece-at-ne-FILL.branch [
+      | then-piece-at-ne-FILL w ↦ (
+        omega (arith, more, ap counted (ne_eqb b FILL (λ e. omega (arith, w.if-piece-at-ne-FILL.true))), w.n-is, k.invariant.0),
+        omega (arith, w.n-is),
+        omega arith,
+      )
+      | else-piece-at-ne-FILL w ↦ (
+        omega (arith, more, ap counted (eq-eqb b FILL (omega (arith, w.if-piece-at-ne-FILL.false))), w.n-is, k.invariant.0),
+        omega (arith, w.n-is),
+        omega arith,
+      )
+    ]
 
 pub returns : goal.returns
 returns c =

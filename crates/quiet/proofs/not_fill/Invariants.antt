@@ -1,15 +1,8 @@
 -- `quiet::not_fill` meets its contract: how many of the bytes so far are not FILL. Assumes nothing.
-use mathlib.Core.Path.{◌≡◌, refl, ap, ◌∙◌}
-use mathlib.Core.Bool.{Bool, not}
-use mathlib.Core.Logic.{⊎_elim}
-use Prim.Native.Nat.{ℕ, ◌+◌, ◌-◌, ◌≤◌}
-use native.Mathlib.Omega.{arith}
-use lib.ListN.{get_or}
-use borrow.Author.Tests.{eq-eqb, ne_eqb}
-use Rattle.base.specs.Format.{FILL}
-use Rattle.base.specs.Lists.{one, count_by}
+use mathlib.Core.Path.{◌≡◌}
+use Prim.Native.Nat.{◌-◌, ◌≤◌}
+use Rattle.base.specs.Lists.{count_by}
 use Rattle.quiet.specs.Quiet.{block, not_fill}
-use Rattle.quiet.proofs.Joining.{count-more}
 use Rattle.quiet.proofs.not_fill.Given as goal
 
 abbrev pub invariant-loop-i : goal.invariant-loop-i

@@ -1,10 +1,8 @@
 use mathlib.Core.Path.{sym, ◌∙◌}
-use Prim.Native.Nat.{◌-◌, ◌≤◌}
 use native.Mathlib.Omega.{arith}
-use lib.ListN.{length}
 use borrow.Author.Tests.{ltb-false}
 use Rattle.base.specs.Lists.{count_by}
-use Rattle.quiet.specs.Quiet.{Quiet, ends, block, is_sync}
+use Rattle.quiet.specs.Quiet.{ends, block, is_sync}
 use Rattle.quiet.proofs.Joining.{quiet_join, block-quiet}
 use Rattle.quiet.proofs.skip_blocks.Goals as goal
 

@@ -1,12 +1,7 @@
 -- `quiet::skip_blocks` meets its contract: the blocks so far are quiet, and one more at each turn. Assumes nothing.
-use mathlib.Core.Path.{sym, ◌∙◌}
 use Prim.Native.Nat.{◌-◌, ◌≤◌}
-use native.Mathlib.Omega.{arith}
 use lib.ListN.{length}
-use borrow.Author.Tests.{ltb-false}
-use Rattle.base.specs.Lists.{count_by}
-use Rattle.quiet.specs.Quiet.{Quiet, ends, block, is_sync}
-use Rattle.quiet.proofs.Joining.{quiet_join, block-quiet}
+use Rattle.quiet.specs.Quiet.{Quiet}
 use Rattle.quiet.proofs.skip_blocks.Given as goal
 
 abbrev pub invariant-loop-at : goal.invariant-loop-at

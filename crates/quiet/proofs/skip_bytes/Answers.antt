@@ -1,9 +1,6 @@
 use mathlib.Core.Path.{refl}
-use Prim.Native.Nat.{ℕ, ◌-◌, ◌≤◌}
 use native.Mathlib.Nat.{add-zero}
 use native.Mathlib.Omega.{arith}
-use lib.ListN.{length}
-use Rattle.quiet.specs.Quiet.{Quiet}
 use Rattle.quiet.proofs.Joining.{quiet_join, one-fill_quiet, one-stray}
 use Rattle.quiet.proofs.skip_bytes.Goals as goal
 

@@ -1,11 +1,7 @@
 -- `quiet::skip_bytes` meets its contract: the bytes so far are quiet, and one more at each turn. Assumes nothing.
-use mathlib.Core.Path.{refl}
 use Prim.Native.Nat.{ℕ, ◌-◌, ◌≤◌}
-use native.Mathlib.Nat.{add-zero}
-use native.Mathlib.Omega.{arith}
 use lib.ListN.{length}
 use Rattle.quiet.specs.Quiet.{Quiet}
-use Rattle.quiet.proofs.Joining.{quiet_join, one-fill_quiet, one-stray}
 use Rattle.quiet.proofs.skip_bytes.Given as goal
 
 abbrev pub invariant-loop-at : goal.invariant-loop-at
