@@ -17,13 +17,13 @@ pub returns-then-not-is_numbered : goal.returns-then-not-is_numbered
 returns-then-not-is_numbered c =
     let frame = c.args.frame.now in
     let m = c.loop-number.number in
-    one-unnumbered frame m (omega arith) (of_row 128 frame is_numbered m _ false c.is_numbered.ensures (not-true _ c.if-not-is_numbered.true))
+    one-unnumbered frame m (omega arith) (of_row 128 frame is_numbered m _ false c.is_numbered.ensures c.if-not-is_numbered.true)
 
 pub loop-number-preserved : goal.loop-number-preserved
 loop-number-preserved c =
     let frame = c.args.frame.now in
     let m = c.loop-number.number in
-    let next = of_row 128 frame is_numbered m _ true c.is_numbered.ensures (not-false _ c.if-not-is_numbered.false) in
+    let next = of_row 128 frame is_numbered m _ true c.is_numbered.ensures c.if-not-is_numbered.false in
     (search rules, below_more _ _ c.loop-number.invariant.1 next)
 
 pub returns : goal.returns

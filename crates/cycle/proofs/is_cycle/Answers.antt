@@ -22,13 +22,13 @@ returns-then-not-is_major c =
     let body = a.body.now in
     let k = c.loop-kind.kind in
     one-other a.year body (omega arith) k (omega arith)
-    (of_row 16384 body (is_kth a.year body) k _ false c.is_major.ensures (not-true _ c.if-not-is_major.true))
+    (of_row 16384 body (is_kth a.year body) k _ false c.is_major.ensures c.if-not-is_major.true)
 
 pub loop-kind-preserved : goal.loop-kind-preserved
 loop-kind-preserved c =
     let a = c.args in
     let body = a.body.now in
-    let next = of_row 16384 body (is_kth a.year body) c.loop-kind.kind _ true c.is_major.ensures (not-false _ c.if-not-is_major.false) in
+    let next = of_row 16384 body (is_kth a.year body) c.loop-kind.kind _ true c.is_major.ensures c.if-not-is_major.false in
     (search rules, below_more _ _ c.loop-kind.invariant.1 next)
 
 pub returns : goal.returns

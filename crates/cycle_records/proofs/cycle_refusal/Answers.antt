@@ -13,21 +13,21 @@ returns-then-body-ne-CYCLE c =
 pub returns-then-not-in_span : goal.returns-then-not-in_span
 returns-then-not-in_span c =
     let a = c.args in
-    sym (out-of_span a.body.now a.year a.k c.if-body-ne-CYCLE.false (sym c.in_span.ensures ∙ not-true _ c.if-not-in_span.true))
+    sym (out-of_span a.body.now a.year a.k c.if-body-ne-CYCLE.false (sym c.in_span.ensures ∙ c.if-not-in_span.true))
 
 pub returns-then-k-gt-LAST_FRAME : goal.returns-then-k-gt-LAST_FRAME
 returns-then-k-gt-LAST_FRAME c =
     let a = c.args in
-    sym (no_frame a.body.now a.year a.k c.if-body-ne-CYCLE.false (sym c.in_span.ensures ∙ not-false _ c.if-not-in_span.false) c.if-k-gt-LAST_FRAME.true)
+    sym (no_frame a.body.now a.year a.k c.if-body-ne-CYCLE.false (sym c.in_span.ensures ∙ c.if-not-in_span.false) c.if-k-gt-LAST_FRAME.true)
 
 pub returns-then-not-is_cycle : goal.returns-then-not-is_cycle
 returns-then-not-is_cycle c =
     let a = c.args in
-    let span = sym c.in_span.ensures ∙ not-false _ c.if-not-in_span.false in
-    sym (no_cycle a.body.now a.year a.k c.if-body-ne-CYCLE.false span (omega arith) (sym c.is_cycle.ensures ∙ not-true _ c.if-not-is_cycle.true))
+    let span = sym c.in_span.ensures ∙ c.if-not-in_span.false in
+    sym (no_cycle a.body.now a.year a.k c.if-body-ne-CYCLE.false span (omega arith) (sym c.is_cycle.ensures ∙ c.if-not-is_cycle.true))
 
 pub returns : goal.returns
 returns c =
     let a = c.args in
-    let span = sym c.in_span.ensures ∙ not-false _ c.if-not-in_span.false in
-    sym (a_cycle a.body.now a.year a.k c.if-body-ne-CYCLE.false span (omega arith) (sym c.is_cycle.ensures ∙ not-false _ c.if-not-is_cycle.false))
+    let span = sym c.in_span.ensures ∙ c.if-not-in_span.false in
+    sym (a_cycle a.body.now a.year a.k c.if-body-ne-CYCLE.false span (omega arith) (sym c.is_cycle.ensures ∙ c.if-not-is_cycle.false))

@@ -29,7 +29,7 @@ found c =
 
 -- past the second test the year is in the span
 spanned : (c : Else-not-in_span) → in_span (handed c).args.year ≡ true
-spanned c = sym c.in_span.ensures ∙ not-false _ c.if-not-in_span.false
+spanned c = sym c.in_span.ensures ∙ c.if-not-in_span.false
 
 pub returns-then-column-ne-PLACES : goal.returns-then-column-ne-PLACES
 returns-then-column-ne-PLACES c =
@@ -39,7 +39,7 @@ returns-then-column-ne-PLACES c =
 pub returns-then-not-in_span : goal.returns-then-not-in_span
 returns-then-not-in_span c =
     let a = c.args in
-    let outside = sym c.in_span.ensures ∙ not-true _ c.if-not-in_span.true in
+    let outside = sym c.in_span.ensures ∙ c.if-not-in_span.true in
     read-outside a.year a.column.now a.kind a.item c.if-column-ne-PLACES.false outside
 
 pub overflow_add-end : goal.overflow_add-end

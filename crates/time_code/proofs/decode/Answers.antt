@@ -3,7 +3,6 @@
 use mathlib.Core.Path.{◌≡◌, sym, ◌∙◌}
 use mathlib.Core.Bool.{true}
 use native.Mathlib.Omega.{arith}
-use borrow.Author.Tests.{not-true, not-false}
 use Rattle.time_code.specs.Calendar.{in_span}
 use Rattle.time_code.proofs.Codes.{wrong-length, out-of_span, spelled_out}
 use Rattle.time_code.proofs.Promises.{decode_promise}
@@ -12,7 +11,7 @@ use Rattle.time_code.proofs.decode.Goals.{Else-not-in_span}
 
 -- past the second test the year is in the span
 spanned : (c : Else-not-in_span) → in_span c.args.year ≡ true
-spanned c = sym c.in_span.ensures ∙ not-false _ c.if-not-in_span.false
+spanned c = sym c.in_span.ensures ∙ c.if-not-in_span.false
 
 pub returns-then-bytes-ne-CODE_LENGTH : goal.returns-then-bytes-ne-CODE_LENGTH
 returns-then-bytes-ne-CODE_LENGTH c =
@@ -27,7 +26,7 @@ pub returns-then-not-in_span : goal.returns-then-not-in_span
 returns-then-not-in_span c =
     let a = c.args in
     let w = a.bytes.now in
-    let outside = sym c.in_span.ensures ∙ not-true _ c.if-not-in_span.true in
+    let outside = sym c.in_span.ensures ∙ c.if-not-in_span.true in
     decode_promise a.year w _ (omega (arith, c.type_inv.bytes 0)) (sym (out-of_span a.year w c.if-bytes-ne-CODE_LENGTH.false outside))
 
 pub decode_seven-requires : goal.decode_seven-requires

@@ -2,7 +2,6 @@
 use mathlib.Core.Path.{◌≡◌, sym, ◌∙◌, subst}
 use mathlib.Core.Bool.{true}
 use lib.Dec.{T}
-use borrow.Author.Tests.{not-true, not-false}
 use Rattle.time_code.specs.Calendar.{in_span}
 use Rattle.time_code.specs.Codec.{has_code}
 use Rattle.time_code.proofs.Codes.{code_fits}
@@ -12,7 +11,7 @@ use Rattle.time_code.proofs.encode.Goals.{Else-not-in_span}
 
 -- past the second test the year is in the span
 spanned : (c : Else-not-in_span) → in_span c.args.year ≡ true
-spanned c = sym c.in_span.ensures ∙ not-false _ c.if-not-in_span.false
+spanned c = sym c.in_span.ensures ∙ c.if-not-in_span.false
 
 pub returns-then-out-ne-CODE_LENGTH : goal.returns-then-out-ne-CODE_LENGTH
 returns-then-out-ne-CODE_LENGTH c =
@@ -25,7 +24,7 @@ in_span-requires c = tt
 pub returns-then-not-in_span : goal.returns-then-not-in_span
 returns-then-not-in_span c =
     let a = c.args in
-    out-of_span a.year a.t a.out.now c.if-out-ne-CODE_LENGTH.false (sym c.in_span.ensures ∙ not-true _ c.if-not-in_span.true)
+    out-of_span a.year a.t a.out.now c.if-out-ne-CODE_LENGTH.false (sym c.in_span.ensures ∙ c.if-not-in_span.true)
 
 pub has_code-requires : goal.has_code-requires
 has_code-requires c = tt
@@ -38,7 +37,7 @@ returns-then-has_code c =
     let a = c.args in
     let coded : has_code a.year a.t ≡ true = sym c.has_code.ensures ∙ c.if-has_code.true in
     let fit = code_fits a.year a.t (subst T (sym coded) tt) a.out.now c.if-out-ne-CODE_LENGTH.false in
-    written a.year a.t a.out.now c.if-out-ne-CODE_LENGTH.false (spanned (goal.at.returns-then-has_code c).Else-not-in_span) c.put.new.0 coded (c.put.ensures ∙ sym fit)
+    written a.year a.t a.out.now c.if-out-ne-CODE_LENGTH.false (spanned (goal.at.returns-then-has_code c).Else-not-in_span) c.put.new.out coded (c.put.ensures ∙ sym fit)
 
 pub returns : goal.returns
 returns c =

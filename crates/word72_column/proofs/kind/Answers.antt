@@ -11,7 +11,7 @@ use Rattle.word72_column.proofs.kind.Goals.{Else-not-in_span}
 
 -- past the second test the year is in the span
 spanned : (c : Else-not-in_span) → in_span c.args.year ≡ true
-spanned c = sym c.in_span.ensures ∙ not-false _ c.if-not-in_span.false
+spanned c = sym c.in_span.ensures ∙ c.if-not-in_span.false
 
 pub returns-then-column-ne-PLACES : goal.returns-then-column-ne-PLACES
 returns-then-column-ne-PLACES c =
@@ -24,7 +24,7 @@ in_span-requires c = tt
 pub returns-then-not-in_span : goal.returns-then-not-in_span
 returns-then-not-in_span c =
     let a = c.args in
-    kind_refused_13 a.year a.column.now c.if-column-ne-PLACES.false (sym c.in_span.ensures ∙ not-true _ c.if-not-in_span.true)
+    kind_refused_13 a.year a.column.now c.if-column-ne-PLACES.false (sym c.in_span.ensures ∙ c.if-not-in_span.true)
 
 pub returns-then-identifier-ne0 : goal.returns-then-identifier-ne0
 returns-then-identifier-ne0 c =

@@ -13,10 +13,10 @@ use Rattle.word72_reading.proofs.read_as.Goals.{Else-not-in_span, Else-not-lengt
 
 -- past the first test the length suits the form, and past the second the year is in the span
 suiting : (c : Else-not-length_suits) → let a = c.args in suits a.form (length a.bytes.now) ≡ true
-suiting c = sym c.length_suits.ensures ∙ not-false _ c.if-not-length_suits.false
+suiting c = sym c.length_suits.ensures ∙ c.if-not-length_suits.false
 
 spanned : (c : Else-not-in_span) → in_span c.args.year ≡ true
-spanned c = sym c.in_span.ensures ∙ not-false _ c.if-not-in_span.false
+spanned c = sym c.in_span.ensures ∙ c.if-not-in_span.false
 
 suits-so : (c : Else-not-length_suits) → let a = c.args in T (suits a.form (length a.bytes.now))
 suits-so c = rw (suiting c) tt
@@ -25,13 +25,13 @@ pub length_suits-requires : goal.length_suits-requires
 length_suits-requires c = tt
 
 pub returns-then-not-length_suits : goal.returns-then-not-length_suits
-returns-then-not-length_suits c = wrong-length _ _ _ (sym c.length_suits.ensures ∙ not-true _ c.if-not-length_suits.true)
+returns-then-not-length_suits c = wrong-length _ _ _ (sym c.length_suits.ensures ∙ c.if-not-length_suits.true)
 
 pub in_span-requires : goal.in_span-requires
 in_span-requires c = tt
 
 pub returns-then-not-in_span : goal.returns-then-not-in_span
-returns-then-not-in_span c = out-of_span _ _ _ (suiting (goal.at.returns-then-not-in_span c).Else-not-length_suits) (sym c.in_span.ensures ∙ not-true _ c.if-not-in_span.true)
+returns-then-not-in_span c = out-of_span _ _ _ (suiting (goal.at.returns-then-not-in_span c).Else-not-length_suits) (sym c.in_span.ensures ∙ c.if-not-in_span.true)
 
 pub read_suited-requires : goal.read_suited-requires
 read_suited-requires c = (spanned c, suits-so (goal.at.read_suited-requires c).Else-not-length_suits)
