@@ -1,12 +1,8 @@
 -- `header_symbols::combine` meets its contract. The loop's invariant:
 -- what is added up is that of the last `place` symbols, and `rest` is what stands above them. Assumes nothing.
-use mathlib.Core.Path.{◌≡◌, refl, ap, ◌∙◌}
-use Prim.Native.Nat.{ℕ, ◌+◌, ◌-◌, ◌*◌, ◌/◌, ◌%◌, ◌^◌, ◌≤◌}
-use native.Mathlib.Omega.{arith}
-use lib.ListN.{get_or}
-use lib.Bits.{bit_xor}
+use mathlib.Core.Path.{◌≡◌}
+use Prim.Native.Nat.{◌-◌, ◌/◌, ◌^◌, ◌≤◌}
 use Rattle.header_code.specs.Symbols.{symbols_of, combined}
-use Rattle.header_code.proofs.Symbols.{next-rest, combined-next}
 use Rattle.header_symbols.proofs.combine.Given as goal
 
 abbrev pub invariant-loop-place : goal.invariant-loop-place

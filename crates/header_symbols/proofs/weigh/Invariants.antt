@@ -1,11 +1,9 @@
 -- `header_symbols::weigh` meets its contract. The loop's invariant:
 -- the count is that of the last `place` symbols, and `rest` is what stands above them. Assumes nothing.
-use mathlib.Core.Path.{◌≡◌, refl, ap, ◌∙◌}
-use Prim.Native.Nat.{ℕ, ◌-◌, ◌/◌, ◌^◌, ◌≤◌}
-use native.Mathlib.Omega.{arith}
+use mathlib.Core.Path.{◌≡◌}
+use Prim.Native.Nat.{◌-◌, ◌/◌, ◌^◌, ◌≤◌}
 use Rattle.header_code.specs.Code.{weight}
 use Rattle.header_code.specs.Symbols.{symbols_of}
-use Rattle.header_code.proofs.Symbols.{next-rest, weight-next}
 use Rattle.header_symbols.proofs.weigh.Given as goal
 
 abbrev pub invariant-loop-place : goal.invariant-loop-place
