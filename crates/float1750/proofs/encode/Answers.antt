@@ -1,11 +1,10 @@
 -- `float1750::encode` meets its contract: where it answers 0 the word that it stored reads as x, and where it answers 11 nothing does.
 -- Its tests take the parts of a word's bit pattern apart (`proofs/Encoding.antt`). Assumes nothing.
 use mathlib.Core.Path.{sym, subst}
-use mathlib.Core.List.{List}
-use Prim.Native.Nat.{ℕ, ◌^◌, ◌<◌}
+use Prim.Native.Nat.{◌^◌, ◌<◌}
 use native.Mathlib.Omega.{arith}
 use lib.Dec.{T}
-use lib.Ieee.{Float, binary64, fits}
+use lib.Ieee.{binary64, fits}
 use lib.Ieee.Bits.{to_bits-lt}
 use Rattle.float1750.specs.Double.{bits_of}
 use Rattle.float1750.specs.Promise.{EncodePromise}
@@ -15,33 +14,23 @@ use Rattle.float1750.proofs.RoundTrip.{read_back, zero-back}
 use Rattle.float1750.proofs.Promises.{wrong-area, refused, written}
 use borrow.Author.Rules.{rules}
 use Rattle.float1750.proofs.encode.Goals as goal
-use Rattle.float1750.proofs.encode.Goals.{Else-bits-eq0, Else-level-ge-END_LEVEL, Else-x, Start}
+use Rattle.float1750.proofs.encode.Goals.{Else-bits-eq0, Else-level-ge-END_LEVEL, Start}
 
-held : (s : Start) → T (fits binary64 s.args.x)
-held s = subst T (sym s.well_formed.0.1) tt
+held : (c : Start) → T (fits binary64 c.args.x)
+held c = subst T (sym c.well_formed.0.1) tt
 
--- past the test for a NaN: the double, its 64 bits, and the lent bytes
-abbrev x : Else-x → Float
-x a = a.before.before.before.args.x
-
-abbrev bits : Else-x → ℕ
-bits a = bits_of (x a)
-
-abbrev out : Else-x → List ℕ
-out a = a.before.before.before.args.out.now
-
-below : (a : Else-x) → bits a < 2 ^ 64
-below a = to_bits-lt binary64 (x a) (held a.before.before.before)
+below : (c : Start) → bits_of c.args.x < 2 ^ 64
+below c = to_bits-lt binary64 c.args.x (held c)
 
 -- past the test for zero, a refusal leaves only to show that they are no word's
-refuses : (a : Else-bits-eq0) → Wordless (bits a.before) → EncodePromise (x a.before) (out a.before) (out a.before) 11
-refuses a wordless =
-    refused (x a.before) (out a.before) (held a.before.before.before.before) a.if-out-ne-WORD_LENGTH.false (unread (x a.before) a.if-bits-eq0.false wordless)
+refuses : (c : Else-bits-eq0) → Wordless (bits_of c.args.x) → EncodePromise c.args.x c.args.out.now c.args.out.now 11
+refuses c wordless =
+    refused c.args.x c.args.out.now (held (goal.at.Else-bits-eq0 c).Start) c.if-out-ne-WORD_LENGTH.false (unread c.args.x c.if-bits-eq0.false wordless)
 
 -- past all tests they are a word's
-passed : (a : Else-level-ge-END_LEVEL) → Passed (bits a.before.before.before.before)
-passed a =
-    record { below = below a.before.before.before.before; a.before.before = a.if-rest-ne0.false; low = a.if-units-sign.false; high = a.if-level-ge-END_LEVEL.false }
+passed : (c : Else-level-ge-END_LEVEL) → Passed (bits_of c.args.x)
+passed c =
+    record { below = below (goal.at.Else-level-ge-END_LEVEL c).Start; even = c.if-rest-ne0.false; low = c.if-units-sign.false; high = c.if-level-ge-END_LEVEL.false }
 
 pub returns-then-out-ne-WORD_LENGTH : goal.returns-then-out-ne-WORD_LENGTH
 returns-then-out-ne-WORD_LENGTH c = wrong-area c.args.x c.args.out.now c.if-out-ne-WORD_LENGTH.true
@@ -55,20 +44,20 @@ float_to_bits-bits c = rw (is_number c.args.x c.if-x.false) tt
 
 pub returns-then-bits-eq0 : goal.returns-then-bits-eq0
 returns-then-bits-eq0 c =
-    written (x (goal.at.returns-then-bits-eq0 c).Else-x) (out (goal.at.returns-then-bits-eq0 c).Else-x) c.if-out-ne-WORD_LENGTH.false 0 128 (omega arith) (omega arith) _ c.put_word.ensures
-    (zero-back (x (goal.at.returns-then-bits-eq0 c).Else-x) (held (goal.at.returns-then-bits-eq0 c).Start) c.if-bits-eq0.true)
+    written c.args.x c.args.out.now c.if-out-ne-WORD_LENGTH.false 0 128 (omega arith) (omega arith) _ c.put_word.ensures
+    (zero-back c.args.x (held (goal.at.returns-then-bits-eq0 c).Start) c.if-bits-eq0.true)
 
 pub returns-then-rest-ne0 : goal.returns-then-rest-ne0
-returns-then-rest-ne0 c = refuses (goal.at.returns-then-rest-ne0 c).Else-bits-eq0 (ragged (bits (goal.at.returns-then-rest-ne0 c).Else-x) c.if-rest-ne0.true)
+returns-then-rest-ne0 c = refuses (goal.at.returns-then-rest-ne0 c).Else-bits-eq0 (ragged (bits_of c.args.x) c.if-rest-ne0.true)
 
 pub overflow_add-sign : goal.overflow_add-sign
-overflow_add-sign c = omega (arith, below (goal.at.overflow_add-sign c).Else-x)
+overflow_add-sign c = omega (arith, below (goal.at.overflow_add-sign c).Start)
 
 pub returns-then-units-sign : goal.returns-then-units-sign
-returns-then-units-sign c = refuses (goal.at.returns-then-units-sign c).Else-bits-eq0 (too_low (bits (goal.at.returns-then-units-sign c).Else-x) c.if-units-sign.true)
+returns-then-units-sign c = refuses (goal.at.returns-then-units-sign c).Else-bits-eq0 (too_low (bits_of c.args.x) c.if-units-sign.true)
 
 pub returns-then-level-ge-END_LEVEL : goal.returns-then-level-ge-END_LEVEL
-returns-then-level-ge-END_LEVEL c = refuses (goal.at.returns-then-level-ge-END_LEVEL c).Else-bits-eq0 (too_high (bits (goal.at.returns-then-level-ge-END_LEVEL c).Else-x) c.if-level-ge-END_LEVEL.true)
+returns-then-level-ge-END_LEVEL c = refuses (goal.at.returns-then-level-ge-END_LEVEL c).Else-bits-eq0 (too_high (bits_of c.args.x) c.if-level-ge-END_LEVEL.true)
 
 pub twos_complement-requires : goal.twos_complement-requires
 twos_complement-requires c = let N = passed-normal _ (passed (goal.at.twos_complement-requires c).Else-level-ge-END_LEVEL) in (omega (arith, N.least), omega (arith, N.bit, N.most))
@@ -78,9 +67,9 @@ put_word-requires-2 c = (search rules, c.twos_complement.ensures.1, omega arith)
 
 pub returns : goal.returns
 returns c =
-    let b = bits (goal.at.returns c).Else-x in
+    let b = bits_of c.args.x in
     let N = passed-normal b (passed (goal.at.returns c).Else-level-ge-END_LEVEL) in
     let m = c.twos_complement.ensures in
-    written (x (goal.at.returns c).Else-x) (out (goal.at.returns c).Else-x) c.if-out-ne-WORD_LENGTH.false _ (biased_in b) m.1 N.byte _ c.put_word-2.ensures
+    written c.args.x c.args.out.now c.if-out-ne-WORD_LENGTH.false _ (biased_in b) m.1 N.byte _ c.put_word-2.ensures
     (rw m.0
-    (read_back (x (goal.at.returns c).Else-x) (held (goal.at.returns c).Start) (sign_bit b) (magnitude_in b) (biased_in b) N (passed-pattern b (passed (goal.at.returns c).Else-level-ge-END_LEVEL))))
+    (read_back c.args.x (held (goal.at.returns c).Start) (sign_bit b) (magnitude_in b) (biased_in b) N (passed-pattern b (passed (goal.at.returns c).Else-level-ge-END_LEVEL))))
