@@ -1,5 +1,5 @@
 -- `fresh_tally::fresh` meets its contract: what it returns is the fresh tally of the rule that is given, of which demand 3 is a theorem. Assumes nothing.
-use mathlib.Core.Path.{sym, ◌∙◌}
+use mathlib.Core.Path.{sym}
 use Rattle.labelling.proofs.Promised.{rule_known, rule_unknown, fresh-promise}
 use Rattle.fresh_tally.proofs.fresh.Goals as goal
 
