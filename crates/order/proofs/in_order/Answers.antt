@@ -1,7 +1,6 @@
 -- `order::in_order` meets its contract: within the limits no sum runs over, and the tests are the definition's. Assumes nothing.
 use mathlib.Core.Path.{◌≡◌, ◌∙◌}
 use mathlib.Core.Bool.{true, ◌&&◌}
-use borrow.Author.Tests.{not-true, not-false}
 use Rattle.labelling.specs.declared.Tally.{Tally}
 use Rattle.labelling.specs.Machine.{state_of}
 use Rattle.labelling.specs.Order.{operators_bounded}
@@ -26,7 +25,7 @@ module _ (c : After-operators_bounded) where
 -- and hold
 module _ (c : Else-not-bounded) where
   held : all_bounded (t c.before) ≡ true
-  held = bounds_are c.before ∙ not-false _ c.if-not-bounded.false
+  held = bounds_are c.before ∙ c.if-not-bounded.false
 
   abbrev both : (bounded (state_of (t c.before)) ≡ true) × (operators_bounded (t c.before).operators ≡ true)
   both = both_hold (bounded (state_of (t c.before))) (operators_bounded (t c.before).operators) held
@@ -38,7 +37,7 @@ module _ (c : Else-not-bounded) where
   in_operators = operators_room (t c.before).operators both.1
 
 pub returns-then-not-bounded : goal.returns-then-not-bounded
-returns-then-not-bounded c = out-of_bounds (t (goal.at.returns-then-not-bounded c).After-operators_bounded) (bounds_are (goal.at.returns-then-not-bounded c).After-operators_bounded ∙ not-true _ c.if-not-bounded.true)
+returns-then-not-bounded c = out-of_bounds (t (goal.at.returns-then-not-bounded c).After-operators_bounded) (bounds_are (goal.at.returns-then-not-bounded c).After-operators_bounded ∙ c.if-not-bounded.true)
 
 pub sums-requires : goal.sums-requires
 sums-requires c = in_layers (goal.at.sums-requires c).Else-not-bounded
