@@ -8,7 +8,7 @@ use Rattle.word72_items.specs.CodeTables.{forms}
 use Rattle.word72_items.specs.Layout.{table17, table18, table19, table20}
 use Rattle.word72_items.proofs.Answers.{describe_refused_6, describe_refused_7, describe_found}
 use Rattle.word72_items.proofs.Rule.{few_items}
-use Rattle.word72_items.proofs.Found.{no_such, is_item, in_order, item_is}
+use Rattle.word72_items.proofs.Found.{no_such, is_item, item_is}
 use Rattle.word72_items.proofs.describe.Goals as goal
 
 pub returns-then-kind-gt-LAST_KIND : goal.returns-then-kind-gt-LAST_KIND

@@ -4,13 +4,13 @@ use Prim.Native.Nat.{ℕ, ◌+◌, ◌*◌, ◌-◌, ◌/◌}
 use native.Mathlib.Omega.{arith}
 use lib.ListN.{get_or}
 use Rattle.word72_items.specs.ItemTable.{entry}
-use Rattle.word72_items.proofs.Found.{Halved, at-start, at-end, upper, lower}
+use Rattle.word72_items.proofs.Found.{at-start, at-end, upper, lower}
 use Rattle.word72_items.proofs.search.seek.Goals as goal
 use Rattle.word72_items.proofs.search.seek.Goals.{After-wide}
 
 -- the place looked at, and that the number read there is the table's entry
 abbrev middle : After-wide → ℕ
-middle a = let l = a.before.before.before.loop in l.low + (l.high - l.low) / 2
+middle a = let l = a.loop-low in l.low + (l.high - l.low) / 2
 
 here : (a : After-wide) → a.wide.result ≡ entry a.args.kind (middle a)
 here a =
