@@ -1,8 +1,7 @@
 -- `duty::change_duty` meets its contract: its tests are the refusal table's, in the table's order. Assumes nothing.
 use mathlib.Core.Path.{◌≡◌, sym, ◌∙◌}
-use mathlib.Core.Bool.{true, false, not}
+use mathlib.Core.Bool.{true, false}
 use native.Mathlib.Omega.{arith}
-use borrow.Author.Tests.{not-true, not-false}
 use Rattle.labelling.specs.Order.{in_order}
 use Rattle.labelling.proofs.CallLaws.{duty_not_in_order, no_such_operator, duty_no_refusal}
 use Rattle.duty.proofs.Answers.{unchanged, changed}
@@ -12,13 +11,13 @@ use Rattle.duty.proofs.change_duty.Goals.{Else-not-in_order}
 pub returns-then-not-in_order : goal.returns-then-not-in_order
 returns-then-not-in_order c =
     let a = c.args in
-    let out : in_order a.t ≡ false = sym c.in_order.ensures ∙ not-true _ c.if-not-in_order.true in
+    let out : in_order a.t ≡ false = sym c.in_order.ensures ∙ c.if-not-in_order.true in
     unchanged (duty_not_in_order a.t a.operator out)
 
 -- past the first test the tally is in order
 module _ (c : Else-not-in_order) where
   ordered : in_order c.args.t ≡ true
-  ordered = sym c.in_order.ensures ∙ not-false _ c.if-not-in_order.false
+  ordered = sym c.in_order.ensures ∙ c.if-not-in_order.false
 
 pub returns-then-operator-gt-LAST_OPERATOR : goal.returns-then-operator-gt-LAST_OPERATOR
 returns-then-operator-gt-LAST_OPERATOR c =
