@@ -1,10 +1,7 @@
 -- `word72_column::all_hold` meets its contract: the bytes passed hold b, and the first that does not settles it. Assumes nothing.
-use mathlib.Core.Path.{◌≡◌, sym}
+use mathlib.Core.Path.{◌≡◌}
 use Prim.Native.Nat.{ℕ, ◌-◌, ◌≤◌, ◌<◌}
-use native.Mathlib.Omega.{arith}
 use lib.ListN.{length, get_or}
-use borrow.Author.Count.{below_more}
-use Rattle.word72_column.proofs.Words.{all_true, one-false}
 use Rattle.word72_column.proofs.all_hold.Given as goal
 
 abbrev pub invariant-loop-i : goal.invariant-loop-i

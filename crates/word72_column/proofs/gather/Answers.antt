@@ -16,4 +16,4 @@ returns-then-column-ne-PLACES c =
 pub returns : goal.returns
 returns c =
     let a = c.args in
-    all-gathered a.area.now a.column.now c.put_words.new.1.0 (omega arith) (omega arith) c.put_words.ensures
+    all-gathered a.area.now a.column.now c.put_words.new.column (omega arith) (omega arith) c.put_words.ensures

@@ -2,7 +2,6 @@
 use mathlib.Core.Path.{◌≡◌, sym, ◌∙◌}
 use mathlib.Core.Bool.{true}
 use native.Mathlib.Omega.{arith}
-use borrow.Author.Tests.{not-true, not-false}
 use Rattle.time_code.specs.Calendar.{in_span}
 use Rattle.word72_column.proofs.Answers.{kind_refused_2, kind_refused_13, kind_named, kind_timed, kind_refused_6}
 use borrow.Author.Rules.{rules}

@@ -1,10 +1,8 @@
 -- `word72_column::put_words` meets its contract: each turn puts one more word in its place, and steps to the next. Assumes nothing.
-use mathlib.Core.Path.{◌≡◌, refl}
+use mathlib.Core.Path.{◌≡◌}
 use Prim.Native.Nat.{ℕ, ◌+◌, ◌*◌, ◌-◌, ◌≤◌, ◌<◌}
-use native.Mathlib.Omega.{arith}
 use lib.ListN.{length, get_or}
 use Rattle.word72_column.specs.Columns.{word72}
-use Rattle.word72_column.proofs.Words.{put-more, is_gathered}
 use Rattle.word72_column.proofs.put_words.Given as goal
 
 abbrev pub invariant-loop-frame : goal.invariant-loop-frame
