@@ -2,7 +2,7 @@
 use Rattle.layer_steps.proofs.groups.close_group.Goals as goal
 
 pub returns-in-Voted : goal.returns-in-Voted
-returns-in-Voted c = rw (c.enum_told-1.given.1, c.weaken-next.ensures)
+returns-in-Voted c = rw (c.in-Voted.is, c.weaken-next.ensures)
 
 pub returns-in-Erased : goal.returns-in-Erased
-returns-in-Erased c = rw c.enum_told-in-Erased-1.given.1
+returns-in-Erased c = rw c.in-Erased.is

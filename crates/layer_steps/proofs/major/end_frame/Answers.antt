@@ -3,10 +3,10 @@ use mathlib.Core.Path.{refl}
 use Rattle.layer_steps.proofs.major.end_frame.Goals as goal
 
 pub returns-in-Good : goal.returns-in-Good
-returns-in-Good c = rw c.enum_told-1.given.1 c.end_good.ensures
+returns-in-Good c = rw c.in-Good.is c.end_good.ensures
 
 pub returns-in-Damaged : goal.returns-in-Damaged
-returns-in-Damaged c = rw c.enum_told-in-Damaged-1.given.1 record { counted = c.after_other.ensures; area_is = refl }
+returns-in-Damaged c = rw c.in-Damaged.is record { counted = c.after_other.ensures; area_is = refl }
 
 pub returns-in-Unsynced : goal.returns-in-Unsynced
-returns-in-Unsynced c = rw c.enum_told-in-Unsynced-1.given.1 record { counted = c.after_other-in-Unsynced.ensures; area_is = refl }
+returns-in-Unsynced c = rw c.in-Unsynced.is record { counted = c.after_other-in-Unsynced.ensures; area_is = refl }

@@ -2,10 +2,10 @@
 use Rattle.layer_steps.proofs.minor.close_frame.Goals as goal
 
 pub returns-in-Good : goal.returns-in-Good
-returns-in-Good c = rw (c.enum_told-1.given.1, c.requires.hunting_value)
+returns-in-Good c = rw (c.in-Good.is, c.requires.hunting_value)
 
 pub returns-in-Damaged : goal.returns-in-Damaged
-returns-in-Damaged c = rw (c.enum_told-in-Damaged-1.given.1, c.requires.hunting_value)
+returns-in-Damaged c = rw (c.in-Damaged.is, c.requires.hunting_value)
 
 pub returns-in-Unsynced : goal.returns-in-Unsynced
-returns-in-Unsynced c = rw c.enum_told-in-Unsynced-1.given.1
+returns-in-Unsynced c = rw c.in-Unsynced.is

@@ -3,7 +3,7 @@ use mathlib.Core.Bool.{or-false, or-true}
 use Rattle.layer_steps.proofs.minor.or_erased.Goals as goal
 
 pub returns-in-Voted : goal.returns-in-Voted
-returns-in-Voted c = rw (c.enum_told-1.given.1, or-false c.args.held)
+returns-in-Voted c = rw (c.in-Voted.is, or-false c.args.held)
 
 pub returns-in-Erased : goal.returns-in-Erased
-returns-in-Erased c = rw (c.enum_told-in-Erased-1.given.1, or-true c.args.held)
+returns-in-Erased c = rw (c.in-Erased.is, or-true c.args.held)
