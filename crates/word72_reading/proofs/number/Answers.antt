@@ -3,7 +3,7 @@ use Rattle.word72_reading.proofs.Bytes.{number_read, number-refused}
 use Rattle.word72_reading.proofs.number.Goals as goal
 
 pub returns-in-Number : goal.returns-in-Number
-returns-in-Number c = number_read c.args.bytes.now c.requires _ (rw c.x-1.given.1 at c.decode.ensures)
+returns-in-Number c = number_read c.args.bytes.now c.requires _ c.in-Number.ensures
 
 pub returns-in-Refused : goal.returns-in-Refused
-returns-in-Refused c = number-refused c.args.bytes.now c.requires _ (rw c.number-1.given.1 at c.decode.ensures)
+returns-in-Refused c = number-refused c.args.bytes.now c.requires _ c.in-Refused.ensures

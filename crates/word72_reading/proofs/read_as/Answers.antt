@@ -4,7 +4,6 @@ use mathlib.Core.Path.{◌≡◌, sym, ◌∙◌}
 use mathlib.Core.Bool.{true}
 use lib.Dec.{T}
 use lib.ListN.{length}
-use borrow.Author.Tests.{not-true, not-false}
 use Rattle.time_code.specs.Calendar.{in_span}
 use Rattle.word72_items.specs.ItemTable.{suits}
 use Rattle.word72_reading.proofs.Bytes.{wrong-length, out-of_span, in_full}
