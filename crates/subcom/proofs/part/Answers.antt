@@ -2,21 +2,10 @@
 -- empty part at the column's start. Assumes nothing.
 use mathlib.Core.Path.{refl}
 use native.Mathlib.Omega.{arith}
-use Rattle.word72_items.specs.declared.Description.TheVariants.{Found}
-use Rattle.word72_items.specs.Promise.{DescribePromise}
 use Rattle.word72_items.proofs.Answers.{to-told}
 use Rattle.subcom.proofs.Requests.{part-short, part-refused, part-found}
 use borrow.Author.Rules.{rules}
 use Rattle.subcom.proofs.part.Goals as goal
-use Rattle.subcom.proofs.part.Goals.{After-struct_known-1}
-
--- what `describe` promises of the item that it found
-found : (c : After-struct_known-1)
-    →
-    let a = c.args in
-    DescribePromise a.kind a.item (Found c.found-1.given.0.0)
-found c =
-    rw c.found-1.given.1 at c.describe.ensures
 
 pub returns-then-column-ne-PLACES : goal.returns-then-column-ne-PLACES
 returns-then-column-ne-PLACES c =
@@ -25,21 +14,20 @@ returns-then-column-ne-PLACES c =
 
 pub overflow_add-end : goal.overflow_add-end
 overflow_add-end c =
-    let S = (to-told _ _ _ (found c)).sound in
+    let S = (to-told _ _ _ c.in-Found.ensures).sound in
     record { fits = omega arith }
 
 pub slice_bounds-result-end-in-Found : goal.slice_bounds-result-end-in-Found
 slice_bounds-result-end-in-Found c =
-    let S = (to-told _ _ _ (found c)).sound in
+    let S = (to-told _ _ _ c.in-Found.ensures).sound in
     search rules
 
 pub returns-in-Found : goal.returns-in-Found
 returns-in-Found c =
     let a = c.args in
-    part-found a.column.now a.column.ref_ptr a.kind a.item _ refl (omega arith) _ (found (goal.at.returns-in-Found c).After-struct_known-1) (omega arith)
+    part-found a.column.now a.column.ref_ptr a.kind a.item _ refl (omega arith) _ c.in-Found.ensures (omega arith)
 
 pub returns-in-Refused : goal.returns-in-Refused
 returns-in-Refused c =
     let a = c.args in
-    let p = rw c.enum_told-1.given.1 at c.describe.ensures in
-    part-refused a.column.now a.column.ref_ptr a.kind a.item _ refl (omega arith) _ p (omega arith)
+    part-refused a.column.now a.column.ref_ptr a.kind a.item _ refl (omega arith) _ c.in-Refused.ensures (omega arith)

@@ -11,9 +11,9 @@ returns-then-column-ne-PLACES c =
 pub returns-in-Found : goal.returns-in-Found
 returns-in-Found c =
     let a = c.args in
-    as_described a.column.now a.kind a.item (omega arith) _ (rw c.enum_told-1.given.1 at c.describe.ensures)
+    as_described a.column.now a.kind a.item (omega arith) _ c.in-Found.ensures
 
 pub returns-in-Refused : goal.returns-in-Refused
 returns-in-Refused c =
     let a = c.args in
-    as_described a.column.now a.kind a.item (omega arith) _ (rw c.number-1.given.1 at c.describe.ensures)
+    as_described a.column.now a.kind a.item (omega arith) _ c.in-Refused.ensures
