@@ -1,6 +1,6 @@
 -- `frame_store::store` meets its contract: each refusal is the table's, and the lowest free slot of 64 is the lowest of the area's where it is
 -- among them. Assumes nothing.
-use mathlib.Core.Path.{◌≡◌, sym, ap, ◌∙◌}
+use mathlib.Core.Path.{◌≡◌, sym, ◌∙◌}
 use mathlib.Core.List.{List}
 use Prim.Native.Nat.{ℕ, ◌+◌, ◌*◌, ◌^◌, ◌≤◌, ◌<◌}
 use native.Mathlib.Omega.{arith}
@@ -26,7 +26,6 @@ fitting c =
 record Ready (area : List ℕ) (bits : ℕ) (frame : List ℕ) (slot : ℕ) : Type 0 where
   accepted : store_refusal area bits frame ≡ 0
   lowest : slot ≡ lowest_free (slots (length area)) bits
-  sized : length frame ≡ major_frame
   room : slot * major_frame + major_frame ≤ length area
   small : slot < 64
   sum : bits + 2 ^ slot < 2 ^ 64
@@ -41,7 +40,6 @@ module _ (area : List ℕ) (bits : ℕ) (frame : List ℕ) (slot : ℕ) where
       record {
         accepted = is_storable (length area) bits frame sized g (omega arith);
         lowest = sym low;
-        sized = sized;
         room = omega (arith, g.whole.exact);
         small = small;
         sum = set_below slot 64 bits small h free;
@@ -52,7 +50,8 @@ at_slot : (c : Else-area-slot)
     Ready a.area.now a.bits a.frame.now c.lowest_free-slot.result
 at_slot c =
     let a = c.args in
-    ready a.area.now a.bits a.frame.now c.lowest_free-slot.result (omega arith) (fitting c.before.before) c.lowest_free-slot.ensures
+    ready a.area.now a.bits a.frame.now c.lowest_free-slot.result (omega arith)
+    (to-fitting (length a.area.now) a.bits (sym c.area_refusal-number.ensures ∙ c.if-number-ne0.false)) c.lowest_free-slot.ensures
     (omega arith) (omega arith)
 
 pub returns-then-frame-ne-MAJOR_FRAME : goal.returns-then-frame-ne-MAJOR_FRAME
@@ -78,11 +77,15 @@ returns-then-area-slot c =
     (all-used size a.bits a.frame.now (omega arith) g (none-among a.bits (slots size) 64 g.whole.most (omega arith)))
     (λ z. omega arith) c.not_stored-then-area-slot.ensures
 
+pub overflow_add-result : goal.overflow_add-result
+overflow_add-result c =
+    let r = at_slot (goal.at.overflow_add-result c).Else-area-slot in
+    record { fits = omega (arith, shifted c.lowest_free-slot.result r.small, r.sum) }
+
 pub returns : goal.returns
 returns c =
-    let there = slotted c in
-    let slot = there.before.lowest-free.result in
-    let a = (measured there.before.before.before).args in
-    let r = at_slot there in
+    let slot = c.lowest_free-slot.result in
+    let a = c.args in
+    let r = at_slot (goal.at.returns c).Else-area-slot in
     store_taken a.area.now a.bits a.frame.now r.accepted slot _ _ r.lowest (omega (arith, shifted slot r.small))
-    (copied slot a.frame.now a.area.now _ r.sized r.room c.copy.ensures.1)
+    (copied slot a.frame.now a.area.now _ r.room c.copy_from_slice.ensures.after)

@@ -1,8 +1,6 @@
 -- `lookup::halve` meets its contract: at each turn halving from here on is the whole search, with the looks so far added. Assumes nothing.
-use mathlib.Core.Logic.{⊎_elim}
 use Prim.Native.Nat.{◌-◌}
-use native.Mathlib.Omega.{arith}
-use Rattle.lookup.proofs.Halving.{Turn, start, turn_past, turn_before, ended}
+use Rattle.lookup.proofs.Halving.{Turn}
 use Rattle.lookup.proofs.halve.Given as goal
 
 abbrev pub invariant-loop-low : goal.invariant-loop-low

@@ -1,12 +1,10 @@
-use mathlib.Core.Path.{◌≡◌, refl}
-use mathlib.Core.Logic.{⊎_elim}
-use Prim.Native.Nat.{◌-◌, ◌/◌}
+use mathlib.Core.Path.{refl}
 use native.Mathlib.Omega.{arith}
-use lib.ListN.{length}
 use Rattle.lookup_bytes.specs.Promise.{instants_in}
-use Rattle.lookup.proofs.Halving.{Turn, start, turn_past, turn_before, ended}
+use Rattle.lookup.proofs.Halving.{start, turn_past, turn_before, ended}
 use Rattle.lookup_bytes.proofs.Instants.{instants-length}
 use Rattle.lookup_bytes.proofs.halve.Goals as goal
+use Rattle.lookup_bytes.proofs.halve.Goals.{then-instant_at-wanted, else-instant_at-wanted}
 
 pub loop-low-init : goal.loop-low-init
 loop-low-init c =
@@ -15,7 +13,10 @@ loop-low-init c =
     (many, rw (← many) (start (instants_in bytes) c.args.wanted))
 
 pub loop-low-smaller : goal.loop-low-smaller
-loop-low-smaller c = ⊎_elim (λ w. omega arith) (λ w. omega arith) c.if-instant_at-wanted.branch
+loop-low-smaller c = elim c.if-instant_at-wanted.branch [
+  | then-instant_at-wanted w ↦ omega arith
+  | else-instant_at-wanted w ↦ omega arith
+]
 
 pub loop-low-preserved : goal.loop-low-preserved
 loop-low-preserved c =
@@ -23,10 +24,10 @@ loop-low-preserved c =
     let xs = instants_in a.instants.now in
     let read = c.instant_at.ensures in (
       c.loop-low.invariant.0,
-      ⊎_elim
-          (λ w. turn_past xs a.wanted c.loop-low.invariant.1 (omega arith) refl (omega arith) (omega arith) (omega arith) (omega arith))
-          (λ w. turn_before xs a.wanted c.loop-low.invariant.1 (omega arith) refl (omega arith) (omega arith) (omega arith) (omega arith))
-          c.if-instant_at-wanted.branch,
+      elim c.if-instant_at-wanted.branch [
+        | then-instant_at-wanted w ↦ turn_past xs a.wanted c.loop-low.invariant.1 (omega arith) refl (omega arith) (omega arith) (omega arith) (omega arith)
+        | else-instant_at-wanted w ↦ turn_before xs a.wanted c.loop-low.invariant.1 (omega arith) refl (omega arith) (omega arith) (omega arith) (omega arith)
+      ],
     )
 
 pub returns : goal.returns

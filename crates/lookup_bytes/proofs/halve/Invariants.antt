@@ -1,12 +1,9 @@
 -- `lookup_bytes::halve` meets its contract: each turn is one of the halving rule on the instants that the bytes are. Assumes nothing.
-use mathlib.Core.Path.{◌≡◌, refl}
-use mathlib.Core.Logic.{⊎_elim}
+use mathlib.Core.Path.{◌≡◌}
 use Prim.Native.Nat.{◌-◌, ◌/◌}
-use native.Mathlib.Omega.{arith}
 use lib.ListN.{length}
 use Rattle.lookup_bytes.specs.Promise.{instants_in}
-use Rattle.lookup.proofs.Halving.{Turn, start, turn_past, turn_before, ended}
-use Rattle.lookup_bytes.proofs.Instants.{instants-length}
+use Rattle.lookup.proofs.Halving.{Turn}
 use Rattle.lookup_bytes.proofs.halve.Given as goal
 
 abbrev pub invariant-loop-low : goal.invariant-loop-low
