@@ -9,7 +9,7 @@ use Rattle.tally_numbers.specs.Numbers.{framing_of, runs_of}
 use Rattle.tally_numbers.proofs.Numbers.{passed}
 use Rattle.number_order.proofs.Modes.{modes_hunting, modes_matching, modes_placing}
 use Rattle.number_order.proofs.modes_in_order.Goals as goal
-use Rattle.number_order.proofs.modes_in_order.Goals.{After-way_told-1, Start}
+use Rattle.number_order.proofs.modes_in_order.Goals.{Start}
 
 abbrev f : Start → Framing
 f s = framing_of s.args.n.now
@@ -25,11 +25,11 @@ flag s = (passed s.args.n.now s.requires).erasure_flag
 
 pub returns-then-n-eq1 : goal.returns-then-n-eq1
 returns-then-n-eq1 c =
-    modes_hunting (f (goal.at.returns-then-n-eq1 c).After-way_told-1) (r (goal.at.returns-then-n-eq1 c).After-way_told-1) (erasure (goal.at.returns-then-n-eq1 c).After-way_told-1) (flag (goal.at.returns-then-n-eq1 c).Start) refl (eq-eqb _ 1 c.if-n-eq1.true)
+    modes_hunting (f (goal.at.returns-then-n-eq1 c).Start) (r (goal.at.returns-then-n-eq1 c).Start) (erasure (goal.at.returns-then-n-eq1 c).Start) (flag (goal.at.returns-then-n-eq1 c).Start) refl (eq-eqb _ 1 c.if-n-eq1.true)
 
 pub returns-then-n-ne0 : goal.returns-then-n-ne0
-returns-then-n-ne0 c = modes_matching (f (goal.at.returns-then-n-ne0 c).After-way_told-1) (r (goal.at.returns-then-n-ne0 c).After-way_told-1) (ne_eqb _ 1 c.if-n-eq1.false) c.if-n-ne0.true
+returns-then-n-ne0 c = modes_matching (f (goal.at.returns-then-n-ne0 c).Start) (r (goal.at.returns-then-n-ne0 c).Start) (ne_eqb _ 1 c.if-n-eq1.false) c.if-n-ne0.true
 
 pub returns : goal.returns
 returns c =
-    modes_placing (f (goal.at.returns c).After-way_told-1) (r (goal.at.returns c).After-way_told-1) (erasure (goal.at.returns c).After-way_told-1) (flag (goal.at.returns c).Start) refl (ne_eqb _ 1 c.if-n-eq1.false) c.if-n-ne0.false
+    modes_placing (f (goal.at.returns c).Start) (r (goal.at.returns c).Start) (erasure (goal.at.returns c).Start) (flag (goal.at.returns c).Start) refl (ne_eqb _ 1 c.if-n-eq1.false) c.if-n-ne0.false
