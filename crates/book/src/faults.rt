@@ -11,7 +11,7 @@ use base::refusal;
 use cycle::CYCLE;
 
 // The first fault of a book, by its number, and the lowest entry that has it: 0 for a fault of the whole book. Both are 0 where there is none.
-#[derive(Drop)]
+#[derive(Clone, Copy)]
 pub struct FirstFault {
     pub number: u8,
     pub entry: u64,

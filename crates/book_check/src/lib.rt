@@ -3,7 +3,7 @@
 ghost use Rattle.std.specs.Prelude.{◌≡◌};
 ghost use Rattle.book_check.specs.Promise.{CheckPromise};
 
-#[derive(Drop)]
+#[derive(Clone, Copy)]
 pub enum Verdict {
     Accepted,
     // The number of the first fault, in the order 16 for fewer than 4 bytes, 13, 16, 17, 18, 19; and its entry, 0 for 13 and 16.

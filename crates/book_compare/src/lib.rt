@@ -7,7 +7,7 @@ ghost use Rattle.book_compare.specs.Promise.{ComparePromise};
 use base::refusal;
 
 // How many lines there are, or the number of the refusal.
-#[derive(Drop)]
+#[derive(Clone, Copy)]
 pub enum Compared {
     Lines(u64),
     Refused(u8),

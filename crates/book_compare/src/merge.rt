@@ -17,7 +17,7 @@ const ONLY_SECOND: u64 = 2;
 const IN_BOTH: u64 = 3;
 
 // A step: the cycles to come, and a line; case 0 for none.
-#[derive(Drop)]
+#[derive(Clone, Copy)]
 pub(crate) struct Step {
     i: u64,
     j: u64,

@@ -8,7 +8,7 @@ use book::{ENTRY, HEADER};
 use cycle::CYCLE;
 
 // Where a part of a book lies.
-#[derive(Drop)]
+#[derive(Clone, Copy)]
 pub struct Place {
     pub start: usize,
     pub length: usize,

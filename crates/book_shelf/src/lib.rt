@@ -4,7 +4,7 @@ ghost use Rattle.book_shelf.specs.Shelves.{EndPromise, rises_above, left_out, ad
 
 // What is gathered: how many cycles, the instant of the last, how many frames were read; whether more may come, whether every cycle is among them and
 // nothing was cut off, and whether standard input could not be read.
-#[derive(Drop)]
+#[derive(Clone, Copy)]
 pub struct Shelf {
     pub cycles: usize,
     pub last: u64,

@@ -7,7 +7,7 @@ ghost use Rattle.book_parts.specs.Parts.{part_refusal, entry_place, body_place, 
 ghost use Rattle.book_view.specs.Held.{held_of, held_place};
 
 // The bytes that it remembers.
-#[derive(Drop)]
+#[derive(Clone, Copy)]
 pub struct Book<'a> {
     pub bytes: &'a [u8],
 }

@@ -111,7 +111,7 @@ fn put_book(year: u64, bodies: &[u8], n: usize, out: &mut [u8])
     put_header(n as u64, year, out);
     put_entries(year, bodies, n, out);
     let start = HEADER + ENTRY * n;
-    bytes::copy(bodies, &mut out[start..]);
+    out[start..].copy_from_slice(bodies);
 }
 
 fn put_header(n: u64, year: u64, out: &mut [u8])

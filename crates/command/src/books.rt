@@ -15,14 +15,14 @@ pub const LARGE_ROOM: usize = 16_714_745;
 const SMALL_CYCLES: u8 = 32;
 
 // Which room a book needs; neither where it cannot be read.
-#[derive(Drop)]
+#[derive(Clone, Copy)]
 pub enum Room {
     Neither,
     Small,
     Large,
 }
 
-#[derive(Drop)]
+#[derive(Clone, Copy)]
 pub struct Begun {
     pub room: Room,
     // How much of the header there is.

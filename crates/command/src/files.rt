@@ -7,7 +7,7 @@ use std::rt::Files;
 use std::{fs, io};
 
 // How far a room is filled, and the error where a read failed before the file ended.
-#[derive(Drop)]
+#[derive(Clone, Copy)]
 pub struct Filled {
     pub length: usize,
     pub failed: Option<io::Error>,

@@ -10,7 +10,7 @@ use base::format::MAJOR_FRAME;
 use base::refusal;
 
 // What a frame brought; or the number of a refusal, with the bits as they were.
-#[derive(Drop)]
+#[derive(Clone, Copy)]
 pub struct Brought {
     pub refusal: u8,
     pub bits: u64,

@@ -9,7 +9,7 @@ use command::put_field;
 use libc::STDIN_FILENO;
 
 // How far standard input was read: whether the area holds a cycle now; else it has ended, within a frame where it is cut, or could not be read.
-#[derive(Drop)]
+#[derive(Clone, Copy)]
 pub struct Read {
     pub whole: bool,
     pub cut: bool,

@@ -2,7 +2,7 @@
 ghost use Rattle.data_pointer.specs.Promise.{NextPromise, PreviousPromise, AfterPromise, DistancePromise};
 
 // A pointer, 0 to 84, or of `distance` a number of frames; or the number of the refusal.
-#[derive(Drop)]
+#[derive(Clone, Copy)]
 pub enum Answer {
     Given(u64),
     Refused(u8),

@@ -24,7 +24,7 @@ const DIGITS: usize = 20;
 const MOST_DIGITS: usize = 1100;
 
 // A fraction n / 2^p in lowest terms.
-#[derive(Drop)]
+#[derive(Clone, Copy)]
 struct Lowest {
     numerator: u64,
     power: usize,

@@ -11,7 +11,7 @@ use order::in_order;
 pub const LAST_OPERATOR: u64 = 7;
 
 // The answer of a call that names an operator.
-#[derive(Drop)]
+#[derive(Clone, Copy)]
 pub struct DutyChanged {
     // 0, or the number of the refusal: the tally is not in order, or there is no such operator.
     pub refusal: u8,

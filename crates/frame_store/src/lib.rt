@@ -10,7 +10,7 @@ use base::format::MAJOR_FRAME;
 use base::refusal;
 
 // The slot that took a frame, and the bits afterwards; or the number of the refusal, slot 0 and the bits as they were.
-#[derive(Drop)]
+#[derive(Clone, Copy)]
 pub struct Stored {
     pub refusal: u8,
     pub slot: u64,
@@ -18,7 +18,7 @@ pub struct Stored {
 }
 
 // The bits afterwards; or the number of the refusal and the bits as they were.
-#[derive(Drop)]
+#[derive(Clone, Copy)]
 pub struct Released {
     pub refusal: u8,
     pub bits: u64,
@@ -44,7 +44,7 @@ pub fn store(area: &mut [u8], bits: u64, frame: &[u8]) -> Stored
     }
     let first = slot * MAJOR_FRAME;
     let end = first + MAJOR_FRAME;
-    bytes::copy(frame, &mut area[first..end]);
+    area[first..end].copy_from_slice(frame);
     Stored {
         refusal: 0,
         slot: slot as u64,

@@ -6,7 +6,7 @@ use frame_store::{Released, Stored};
 use vectors::{checksum, field, filled, number, put};
 
 // The bits to hand on, and whether the input goes on.
-#[derive(Drop)]
+#[derive(Clone, Copy)]
 struct Next {
     more: bool,
     bits: u64,

@@ -5,7 +5,7 @@ ghost use Rattle.frames_state.specs.Frames.{SameReel};
 use reel_state::Reel;
 
 // What a line on a terminal needs to know.
-#[derive(Drop)]
+#[derive(Clone, Copy)]
 pub struct Progress {
     // Whether standard error is a terminal.
     pub terminal: bool,
@@ -15,7 +15,7 @@ pub struct Progress {
 }
 
 // How the reading and the writing stand.
-#[derive(Drop)]
+#[derive(Clone, Copy)]
 pub struct State {
     pub reel: Reel,
     // How many major frames were written.

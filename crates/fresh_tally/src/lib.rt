@@ -7,7 +7,7 @@ use base::refusal::NO_SUCH_RULE;
 use labelling::{Framing, Groups, Operators, Runs, Tally, Weak};
 
 // The answer where a fresh tally is asked for.
-#[derive(Drop)]
+#[derive(Clone, Copy)]
 pub struct FreshTally {
     // 0, or the number of the refusal: there is no such rule. The tally is then that of rule 1.
     pub refusal: u8,

@@ -29,7 +29,7 @@ const RULE: usize = 32;
 const LEAD_IN: u64 = 12;
 
 // The answer of a call.
-#[derive(Drop)]
+#[derive(Clone, Copy)]
 pub struct Part {
     // 0, or the number of the refusal, as of `reader::take`. Numbers that are no tally's are not in order.
     pub refusal: u8,
@@ -80,7 +80,7 @@ fn call(
 }
 
 // The answer of a call that also stops at a lock.
-#[derive(Drop)]
+#[derive(Clone, Copy)]
 pub struct Locked {
     pub part: Part,
     // Whether a hunt has ended, with the last byte that was taken.

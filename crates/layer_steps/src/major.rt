@@ -13,7 +13,7 @@ use labelling::{FrameClass, Runs};
 // The number of the minor frame that completes a major frame.
 const LAST_NUMBER: u64 = (MAJOR_FRAME / MINOR_FRAME) as u64 - 1;
 
-#[derive(Drop)]
+#[derive(Clone, Copy)]
 pub struct Ended {
     pub runs: Runs,
     pub complete: bool,

@@ -12,13 +12,13 @@ use labelling::{FrameClass, Framing, Word};
 const LAST_PLACE: usize = MINOR_FRAME - 1;
 
 // What the last word closed.
-#[derive(Drop)]
+#[derive(Clone, Copy)]
 pub enum Closing {
     Nothing,
     Frame(FrameClass),
 }
 
-#[derive(Drop)]
+#[derive(Clone, Copy)]
 pub struct Framed {
     pub framing: Framing,
     pub closing: Closing,

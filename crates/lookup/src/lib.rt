@@ -5,7 +5,7 @@ ghost use Rattle.lookup.specs.Answer.{given};
 ghost use Rattle.lookup.specs.Promise.{FindPromise};
 
 // Where the instant stands in the list, or that none does; and how many entries were looked at. Or the number of the refusal.
-#[derive(Drop)]
+#[derive(Clone, Copy)]
 pub enum Found {
     At { place: usize, looks: usize },
     Nothing { looks: usize },
@@ -28,7 +28,7 @@ pub fn find(instants: &[u64], wanted: u64) -> Found
 }
 
 // Where halving ends: `low`, which `high` has met, and the entries looked at.
-#[derive(Drop)]
+#[derive(Clone, Copy)]
 struct End {
     low: usize,
     looks: usize,

@@ -26,7 +26,7 @@ pub fn find(instants: &[u8], wanted: u64) -> Found
 }
 
 // Where halving ends: `low`, which `high` has met, and the entries looked at.
-#[derive(Drop)]
+#[derive(Clone, Copy)]
 struct End {
     low: usize,
     looks: usize,

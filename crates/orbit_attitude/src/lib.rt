@@ -9,7 +9,7 @@ use cycle_columns::{column, count32};
 use cycle_records::dated_refusal;
 
 // The four Euler parameters, as counts: the book's figure of their weight is lost.
-#[derive(Drop)]
+#[derive(Clone, Copy)]
 pub struct Attitude {
     pub refusal: u8,
     pub instant: u64,

@@ -8,7 +8,7 @@ use cycle_records::cycle_refusal;
 
 // The last update of the clock, in seconds from midnight of the year's first day; and the terms of its drift, as counts in milliseconds, per day and
 // per day squared, whose weight and sign the book leaves open.
-#[derive(Drop)]
+#[derive(Clone, Copy)]
 pub struct Clock {
     pub refusal: u8,
     pub updated: f64,

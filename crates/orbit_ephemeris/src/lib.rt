@@ -12,7 +12,7 @@ const POSITION: u8 = 8;
 const VELOCITY: u8 = 28;
 
 // Metres, and metres per millisecond.
-#[derive(Drop)]
+#[derive(Clone, Copy)]
 pub struct Ephemeris {
     pub refusal: u8,
     pub instant: u64,

@@ -10,7 +10,7 @@ use cycle_records::dated_refusal;
 const PLACES: u8 = 47;
 
 // Radians per second.
-#[derive(Drop)]
+#[derive(Clone, Copy)]
 pub struct GyroDrift {
     pub refusal: u8,
     pub instant: u64,

@@ -6,7 +6,7 @@ use command::{put, put_byte, put_number};
 use csv_fields::put_number_field;
 
 // Which record a value is of: its cycle and major frame; its refusal, 0 for none; its year, and its instant, 0 where it has none.
-#[derive(Drop)]
+#[derive(Clone, Copy)]
 pub struct Row {
     pub cycle: u64,
     pub frame: u64,

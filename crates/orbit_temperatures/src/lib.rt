@@ -12,7 +12,7 @@ use cycle_records::cycle_refusal;
 const PLACES: u8 = 11;
 
 // Degrees Celsius: the three angular displacement sensors' and the PDF's.
-#[derive(Drop)]
+#[derive(Clone, Copy)]
 pub struct Temperatures {
     pub refusal: u8,
     pub temp1: f64,

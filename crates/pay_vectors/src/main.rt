@@ -18,7 +18,7 @@ fn main() {
 }
 
 // What a record asks for.
-#[derive(Drop)]
+#[derive(Clone, Copy)]
 struct Asked {
     operation: u8,
     // The length of the lent answer.

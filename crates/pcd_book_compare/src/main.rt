@@ -14,7 +14,7 @@ fn main() {
 }
 
 // A book that is opened: its descriptor, the room that it needs, and how much of its header there is.
-#[derive(Drop)]
+#[derive(Clone, Copy)]
 struct Opened {
     fd: i32,
     room: Room,

@@ -11,7 +11,7 @@ use libc::STDIN_FILENO;
 const MOST_FRAMES: u64 = 1 << 60;
 
 // How reading stands.
-#[derive(Drop)]
+#[derive(Clone, Copy)]
 enum Input {
     More,
     Ended,

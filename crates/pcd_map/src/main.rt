@@ -15,7 +15,7 @@ const CELLS: usize = 32768;
 // The most turns of the reading: each opens a file, fills the buffer or takes bytes, so that no reel has as many.
 const MOST_TURNS: u64 = 1 << 62;
 
-#[derive(Drop)]
+#[derive(Clone, Copy)]
 struct State {
     reel: Reel,
     map: Map,

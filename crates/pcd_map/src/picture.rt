@@ -18,7 +18,7 @@ const ROW: usize = 128;
 const TOLD: usize = 8;
 
 // A reel as it was read: how many bytes, in which way, and what was counted.
-#[derive(Drop)]
+#[derive(Clone, Copy)]
 pub struct Told {
     pub bytes: u64,
     pub strict: bool,

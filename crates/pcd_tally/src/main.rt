@@ -10,7 +10,7 @@ use libc::{STDERR_FILENO, STDIN_FILENO, STDOUT_FILENO};
 const RULE: u64 = 1;
 
 // How reading stands.
-#[derive(Drop)]
+#[derive(Clone, Copy)]
 enum Input {
     More,
     Ended,
@@ -18,7 +18,7 @@ enum Input {
     TooLong,
 }
 
-#[derive(Drop)]
+#[derive(Clone, Copy)]
 struct State {
     tally: Tally,
     // How many bytes were read, as the reads counted them.

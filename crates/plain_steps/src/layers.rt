@@ -13,14 +13,14 @@ use layer_steps::minor::Closing;
 use layer_steps::{groups, major, minor};
 
 // A state without its frame, which is lent beside it: so a byte copies counts and no frame.
-#[derive(Drop)]
+#[derive(Clone, Copy)]
 pub struct Layers {
     pub groups: Groups,
     pub framing: Framing,
     pub runs: Runs,
 }
 
-#[derive(Drop)]
+#[derive(Clone, Copy)]
 pub struct Stepped {
     pub layers: Layers,
     // Whether a major frame is complete; the area holds it.

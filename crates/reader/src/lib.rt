@@ -20,7 +20,7 @@ use plain_steps::Layers;
 pub use plain_steps::{Voted, vote, vote_bits};
 
 // The answer of a call.
-#[derive(Drop)]
+#[derive(Clone, Copy)]
 pub struct Taken {
     // 0, or the number of the refusal: the tally is not in order, the area has another length than a major frame, or too many bytes.
     pub refusal: u8,
@@ -32,7 +32,7 @@ pub struct Taken {
 }
 
 // The answer of a call that also stops at a lock.
-#[derive(Drop)]
+#[derive(Clone, Copy)]
 pub struct Locked {
     // As of `take`, but for how many bytes were taken: all, or as far as the byte that completes a major frame or ends a hunt.
     pub taken: Taken,

@@ -9,7 +9,7 @@ ghost use Rattle.reader_run.specs.Onward.{Begun, from, fed, halts, Ahead, ran_of
 
 use plain_steps::Layers;
 
-#[derive(Drop)]
+#[derive(Clone, Copy)]
 pub struct Ran {
     pub layers: Layers,
     // How far into the piece it ran.

@@ -16,7 +16,7 @@ use plain_steps::Layers;
 const LAST_PLACE: u64 = 127;
 
 // How far a stretch leads. Nothing is complete there.
-#[derive(Drop)]
+#[derive(Clone, Copy)]
 pub(crate) struct Reached {
     pub(crate) layers: Layers,
     pub(crate) at: usize,

@@ -16,7 +16,7 @@ use vectors::{filled, mix, number, sum};
 const ROOM: usize = 140_000;
 
 // How the reading of a stream stands.
-#[derive(Drop)]
+#[derive(Clone, Copy)]
 pub(crate) struct Reading {
     pub(crate) tally: Tally,
     // How many calls there were that must take their piece, and a checksum of their answers.

@@ -7,7 +7,7 @@ use vectors::{number, sum};
 
 const LAST_OPERATOR: u64 = 7;
 
-#[derive(Drop)]
+#[derive(Clone, Copy)]
 pub(crate) struct Shifts {
     // The numbers that are named in turn, and which comes next.
     pub(crate) operators: [u64; 8],

@@ -23,7 +23,7 @@ const LENGTH: u64 = 1152;
 const LIMIT: u64 = 1 << 62;
 
 // The counts that tell a cell's class.
-#[derive(Drop)]
+#[derive(Clone, Copy)]
 pub struct Seen {
     pub stray: u64,
     pub split: u64,
@@ -34,7 +34,7 @@ pub struct Seen {
 }
 
 // How far a map is drawn.
-#[derive(Drop)]
+#[derive(Clone, Copy)]
 pub struct Map {
     // How many bytes of the reel a cell has, and before which byte of it the cell ends that is being read.
     pub length: u64,

@@ -7,7 +7,7 @@ use base::refusal::TOO_MANY_BYTES;
 use relocking::{Feeder, Relocked};
 
 // What has happened.
-#[derive(Drop)]
+#[derive(Clone, Copy)]
 pub enum Event {
     // Bytes were taken or a file was opened; nothing is to be done.
     Onward,
@@ -26,7 +26,7 @@ pub enum Event {
 }
 
 // How the reading of a reel stands.
-#[derive(Drop)]
+#[derive(Clone, Copy)]
 pub struct Reel {
     pub feeder: Feeder,
     // By 01's rules alone.
@@ -45,7 +45,7 @@ pub struct Reel {
     pub last: bool,
 }
 
-#[derive(Drop)]
+#[derive(Clone, Copy)]
 pub struct Advanced {
     pub event: Event,
     pub reel: Reel,

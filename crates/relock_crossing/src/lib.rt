@@ -43,7 +43,7 @@ pub fn relock(
 }
 
 // What a step answers, and the feeder's two after it.
-#[derive(Drop)]
+#[derive(Clone, Copy)]
 pub(crate) struct Step {
     pub(crate) refusal: u8,
     pub(crate) taken: usize,

@@ -13,7 +13,7 @@ const ROOM: usize = 140_000;
 const MOST_STEPS: u64 = 1_000_000;
 
 // How the reading of a reel stands: the bytes from `at` to `end` are in hand.
-#[derive(Drop)]
+#[derive(Clone, Copy)]
 pub(crate) struct Reading {
     pub(crate) feeder: Feeder,
     pub(crate) at: u64,

@@ -16,7 +16,7 @@ use order::LIMIT;
 pub const LEAD_IN: u64 = 12;
 
 // What goes from step to step. It begins with a fresh tally, at no lock, with no lead-in handed.
-#[derive(Drop)]
+#[derive(Clone, Copy)]
 pub struct Feeder {
     pub tally: Tally,
     // Whether a lock awaits its next word.
@@ -26,7 +26,7 @@ pub struct Feeder {
 }
 
 // The answer of a step.
-#[derive(Drop)]
+#[derive(Clone, Copy)]
 pub struct Relocked {
     // 0, or the number of the refusal: the feeder is not in order, the area has another length than a major frame, or too many bytes.
     pub refusal: u8,

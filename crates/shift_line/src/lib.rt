@@ -16,7 +16,7 @@ pub const NOT_RISING: u8 = 3;
 pub const TOO_FAR: u8 = 4;
 
 // A shift, or what is wrong with its line: 0 for nothing. Beside a fault the numbers are 0.
-#[derive(Drop)]
+#[derive(Clone, Copy)]
 pub struct Shift {
     pub fault: u8,
     pub begin: u64,

@@ -15,7 +15,7 @@ const CHANGE: u64 = 2;
 
 const FRESH: u64 = 3;
 
-#[derive(Drop)]
+#[derive(Clone, Copy)]
 pub(crate) struct Answer {
     pub(crate) tally: Tally,
     pub(crate) refusal: u64,

@@ -19,7 +19,7 @@ const MOST_LINE: usize = 160;
 const MOST_PIECE: usize = 16;
 
 // Whether there was a record, and the tally that is kept.
-#[derive(Drop)]
+#[derive(Clone, Copy)]
 struct Turned {
     more: bool,
     tally: Tally,

@@ -8,7 +8,7 @@ use base::refusal::{NO_CODE_WORD, NOT_A_HEADER};
 const HEADER: usize = 8;
 
 // Whether a header's ten symbols are a code word, or the number of the refusal.
-#[derive(Drop)]
+#[derive(Clone, Copy)]
 pub enum Checked {
     Good,
     Bad,
@@ -16,7 +16,7 @@ pub enum Checked {
 }
 
 // How many symbols were wrong, or the number of the refusal.
-#[derive(Drop)]
+#[derive(Clone, Copy)]
 pub enum Repaired {
     Corrected(u64),
     Refused(u8),

@@ -18,7 +18,7 @@ const CELL: usize = 9;
 const VECTOR: usize = 16;
 
 // What the columns tell: how often copies agree, and whether all three differ somewhere, where it is not 0.
-#[derive(Drop)]
+#[derive(Clone, Copy)]
 pub(crate) struct Told {
     pub(crate) sums: u64,
     pub(crate) split: u8,

@@ -10,7 +10,7 @@ use labelling::Weak;
 const MOST: u64 = 0xffff;
 
 // How far a stretch goes, how many groups it has, their weak copies, the first two copies of the last of them, and its stray bytes.
-#[derive(Drop)]
+#[derive(Clone, Copy)]
 pub struct Passed {
     pub at: usize,
     pub count: u64,
@@ -21,7 +21,7 @@ pub struct Passed {
 }
 
 // The same in a loop: where the last group stands, and how often copies agree.
-#[derive(Drop)]
+#[derive(Clone, Copy)]
 pub(crate) struct Hunt {
     pub(crate) at: usize,
     pub(crate) count: u64,

@@ -11,7 +11,7 @@ pub(crate) const LAST_PLACE: usize = MINOR_FRAME - 1;
 
 // How far a stretch goes, how far the frame is filled then, the weak copies of its groups, the first two copies of the last of them, and
 // its stray bytes.
-#[derive(Drop)]
+#[derive(Clone, Copy)]
 pub struct Filled {
     pub at: usize,
     pub placed: usize,
@@ -22,7 +22,7 @@ pub struct Filled {
 }
 
 // The same in a loop: where the last group stands, and how often copies agree.
-#[derive(Drop)]
+#[derive(Clone, Copy)]
 pub(crate) struct Run {
     pub(crate) at: usize,
     pub(crate) placed: usize,

@@ -19,7 +19,7 @@ const LAST: u64 = 0x100000000;
 pub(crate) const ALIKE: u64 = 0x100010001;
 
 // What is told of a group: which copies agree, none where it is split, its word, and the next SYNC after it with the stray bytes before that.
-#[derive(Drop)]
+#[derive(Clone, Copy)]
 pub(crate) struct Seen {
     pub(crate) agree: u64,
     pub(crate) word: u8,

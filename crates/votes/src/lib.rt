@@ -10,7 +10,7 @@ use labelling::Word;
 // The rule of the second agreement.
 const BY_BITS: u64 = 2;
 
-#[derive(Drop)]
+#[derive(Clone, Copy)]
 pub struct Voted {
     pub word: Word,
     // The copy that disagrees with the two others: 1, 2 or 3, and 0 for none.

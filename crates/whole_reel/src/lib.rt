@@ -8,7 +8,7 @@ use feeding::number;
 use relocking::{Feeder, relock};
 
 // The answer of `read`. Beside a refusal nothing was taken.
-#[derive(Drop)]
+#[derive(Clone, Copy)]
 pub struct Reel {
     // 0, or the number of the refusal: there is no such rule, the area has another length than a major frame, or too many bytes.
     pub refusal: u8,

@@ -25,7 +25,7 @@ const TIME_END: usize = 103;
 const IDENTIFIER_END: usize = 104;
 
 // A column's kind, or the number of the refusal.
-#[derive(Drop)]
+#[derive(Clone, Copy)]
 pub enum ColumnKind {
     Kind(u64),
     Refused(u8),

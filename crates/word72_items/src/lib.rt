@@ -15,7 +15,7 @@ pub const PLACES: usize = 128;
 const LAST_KIND: u64 = 3;
 
 // How an item's bytes are read.
-#[derive(Drop)]
+#[derive(Clone, Copy)]
 pub enum Form {
     Count,
     TwelveBit,
@@ -26,7 +26,7 @@ pub enum Form {
 }
 
 // What an item is: how it is read, its first place in the column, and how many places it has.
-#[derive(Drop)]
+#[derive(Clone, Copy)]
 pub struct Item {
     pub form: Form,
     pub first: usize,
@@ -34,14 +34,14 @@ pub struct Item {
 }
 
 // An item, or the number of the refusal.
-#[derive(Drop)]
+#[derive(Clone, Copy)]
 pub enum Description {
     Found(Item),
     Refused(u8),
 }
 
 // How many items a kind has, or the number of the refusal.
-#[derive(Drop)]
+#[derive(Clone, Copy)]
 pub enum ItemCount {
     Items(u64),
     Refused(u8),

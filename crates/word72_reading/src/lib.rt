@@ -15,7 +15,7 @@ use word72_items::Form;
 const LONGEST_COUNT: usize = 8;
 
 // The eight flags of a serial word by the book's bit numbers; bit 0 is the most significant.
-#[derive(Drop)]
+#[derive(Clone, Copy)]
 pub struct EightFlags {
     pub bit0: bool,
     pub bit1: bool,
@@ -28,7 +28,7 @@ pub struct EightFlags {
 }
 
 // What an item reads as, or the number of the refusal.
-#[derive(Drop)]
+#[derive(Clone, Copy)]
 pub enum Reading {
     Count(u64),
     Flags(EightFlags),

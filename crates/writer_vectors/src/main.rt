@@ -11,7 +11,7 @@ const LEAD_IN: u8 = 0;
 const MINOR_FRAME: u8 = 1;
 
 // The beginning of a record.
-#[derive(Drop)]
+#[derive(Clone, Copy)]
 struct Header {
     kind: u8,
     // The bytes of a minor frame, or the major frames of a reel.

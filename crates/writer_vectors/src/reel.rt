@@ -10,7 +10,7 @@ use vectors::{filled, sum};
 const MOST_MAJORS: usize = 4;
 
 // How the reading of a reel stands.
-#[derive(Drop)]
+#[derive(Clone, Copy)]
 pub(crate) struct Reading {
     pub(crate) tally: Tally,
     // How many major frames were paid, how many bytes of the area were compared then, and how many of these are not what was written.
