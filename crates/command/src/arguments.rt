@@ -17,7 +17,7 @@ pub fn argument(rt: &impl Env, i: usize, room: &mut [u8]) -> usize
 }
 
 // Whether there is an argument i.
-pub fn is_argument(rt: &impl Env, i: usize) -> bool {
+fn is_argument(rt: &impl Env, i: usize) -> bool {
     let mut room = [0u8; 1];
     !matches!(rt.arg(i, &mut room), Err(FillError::NotPresent))
 }

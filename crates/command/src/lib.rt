@@ -12,7 +12,7 @@ mod saying;
 mod text;
 mod words;
 
-pub use arguments::{argument, argument_count, is_argument};
+pub use arguments::{argument, argument_count};
 pub use books::{Begun, LARGE_ROOM, Room, SMALL_ROOM, begin_book, read_book};
 pub use ending::end;
 pub use files::{Filled, fill, open};

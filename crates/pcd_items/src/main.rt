@@ -7,7 +7,7 @@ ghost use Rattle.io.specs.Counts.{IsPrefixLen};
 
 use base::{format, refusal};
 use command::{ErrorOutput, Parsed};
-use std::io::{Input as Source, Read};
+use std::io::Read;
 use std::rt::Env;
 
 // More frames than any input has.
@@ -29,7 +29,7 @@ fn main(rt: HostRuntime) {
     command::end(&rt, 1);
 }
 
-fn show_all<R: Env + Source + Print + ErrorOutput>(rt: &R) -> bool {
+fn show_all<R: Env + std::io::Input + Print + ErrorOutput>(rt: &R) -> bool {
     let mut word = [0u8; 64];
     let n = command::argument(rt, 2, &mut word);
     match command::number(&word[..n]) {
@@ -47,7 +47,7 @@ fn show_all<R: Env + Source + Print + ErrorOutput>(rt: &R) -> bool {
 }
 
 // The frames of a year; a line says where it is outside the span.
-fn show_year<R: Source + Print + ErrorOutput>(rt: &R, year: u64, word: &[u8]) -> bool {
+fn show_year<R: std::io::Input + Print + ErrorOutput>(rt: &R, year: u64, word: &[u8]) -> bool {
     if !time_code::year::in_span(year) {
         command::refuse(rt, b"pcd-items", word, refusal::YEAR_OUTSIDE_SPAN);
         return false;
@@ -59,7 +59,7 @@ fn show_year<R: Source + Print + ErrorOutput>(rt: &R, year: u64, word: &[u8]) ->
     show_frames(rt, year)
 }
 
-fn show_frames<R: Source + Print + ErrorOutput>(rt: &R, year: u64) -> bool {
+fn show_frames<R: std::io::Input + Print + ErrorOutput>(rt: &R, year: u64) -> bool {
     let mut area_space = [0u8; format::MAJOR_FRAME];
     let area: &mut [u8] = &mut area_space;
     let mut text_space = io::large_buffer();
