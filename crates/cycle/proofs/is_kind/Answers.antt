@@ -20,7 +20,7 @@ answered k =
     kind_is _ _ _ _ _ gathered k.kind.ensures.answer
 
 pub returns-in-Kind : goal.returns-in-Kind
-returns-in-Kind c = ap (answers_kind _) (sym c.found-1.given.1) ∙ answered (goal.at.returns-in-Kind c).After-kind
+returns-in-Kind c = ap (answers_kind _) (sym c.in-Kind.is) ∙ answered (goal.at.returns-in-Kind c).After-kind
 
 pub returns-in-Refused : goal.returns-in-Refused
-returns-in-Refused c = ap (answers_kind _) (sym c.enum_told-1.given.1) ∙ answered (goal.at.returns-in-Refused c).After-kind
+returns-in-Refused c = ap (answers_kind _) (sym c.in-Refused.is) ∙ answered (goal.at.returns-in-Refused c).After-kind
