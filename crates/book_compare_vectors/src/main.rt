@@ -6,6 +6,8 @@
 ghost use Rattle.std.specs.Prelude.{◌≡◌, length};
 
 use book_compare::Compared;
+use std::io;
+use std::io::Input;
 use vectors::{field, fields, filled, number, put};
 
 // A book of 16 cycles and, behind it, a major frame.
@@ -14,7 +16,7 @@ const BOOK: usize = 1_065_156;
 // Two lines more than a table has.
 const SPACE: usize = 1536;
 
-fn main() {
+fn main(rt: HostRuntime) -> io::Result<()> {
     let mut first_space = blank();
     let mut second_space = blank();
     let mut table_space = [0u64; SPACE];
@@ -23,11 +25,12 @@ fn main() {
     let table: &mut [u64] = &mut table_space;
     let mut left = vectors::MOST_RECORDS;
     while left > 0 {
-        if !turn(&mut *first, &mut *second, &mut *table) {
-            return;
+        if !turn(&rt, &mut *first, &mut *second, &mut *table)? {
+            return Ok(());
         }
         left -= 1;
     }
+    Ok(())
 }
 
 // Room for a book. Callers know only its length, so that no check of theirs counts the bytes one by one.
@@ -39,27 +42,32 @@ fn blank() -> [u8; BOOK]
 
 // Reads a record and runs it; false at the end of the input, and where a record goes beyond an area. A record: the operation, three bytes of
 // nothing, a place or a length (4 bytes), and a number (8 bytes).
-fn turn(first: &mut [u8], second: &mut [u8], table: &mut [u64]) -> bool {
+fn turn(
+    rt: &(impl Input + Print),
+    first: &mut [u8],
+    second: &mut [u8],
+    table: &mut [u64],
+) -> io::Result<bool> {
     let mut record = [0u8; 16];
-    if !filled(&mut record) {
-        return false;
+    if !filled(rt, &mut record) {
+        return Ok(false);
     }
     let n = number(&record[4..8]) as usize;
     let value = number(&record[8..16]) as usize;
     match record[0] {
-        1 => return load(first, n, value),
-        2 => return load(second, n, value),
-        3 => return repeat(first, n, value),
-        4 => return repeat(second, n, value),
-        5 => return compare(first, n, second, value, table),
-        _ => return false,
+        1 => return Ok(load(rt, first, n, value)),
+        2 => return Ok(load(rt, second, n, value)),
+        3 => return Ok(repeat(rt, first, n, value)),
+        4 => return Ok(repeat(rt, second, n, value)),
+        5 => return compare(rt, first, n, second, value, table),
+        _ => return Ok(false),
     }
 }
 
 // ---- what changes an area
 
 // So many bytes of the input go to a place.
-fn load(area: &mut [u8], place: usize, n: usize) -> bool {
+fn load(rt: &impl Input, area: &mut [u8], place: usize, n: usize) -> bool {
     if area.len() < place {
         return false;
     }
@@ -67,13 +75,13 @@ fn load(area: &mut [u8], place: usize, n: usize) -> bool {
         return false;
     }
     let end = place + n;
-    filled(&mut area[place..end])
+    filled(rt, &mut area[place..end])
 }
 
 // So many bytes, as the input says, go once more from one place to another.
-fn repeat(area: &mut [u8], place: usize, from: usize) -> bool {
+fn repeat(rt: &impl Input, area: &mut [u8], place: usize, from: usize) -> bool {
     let mut bytes = [0u8; 8];
-    if !filled(&mut bytes) {
+    if !filled(rt, &mut bytes) {
         return false;
     }
     let n = number(&bytes) as usize;
@@ -116,25 +124,32 @@ fn set(area: &mut [u8], place: usize, i: usize, b: u8) {
 // ---- what is asked
 
 // The first n bytes of one area with the first m of the other, into as many numbers of the table as the input says.
-fn compare(first: &[u8], n: usize, second: &[u8], m: usize, table: &mut [u64]) -> bool {
+fn compare(
+    rt: &(impl Input + Print),
+    first: &[u8],
+    n: usize,
+    second: &[u8],
+    m: usize,
+    table: &mut [u64],
+) -> io::Result<bool> {
     let mut bytes = [0u8; 8];
-    if !filled(&mut bytes) {
-        return false;
+    if !filled(rt, &mut bytes) {
+        return Ok(false);
     }
     let size = number(&bytes) as usize;
     if first.len() < n {
-        return false;
+        return Ok(false);
     }
     if second.len() < m {
-        return false;
+        return Ok(false);
     }
     if table.len() < size {
-        return false;
+        return Ok(false);
     }
     put_pattern(table);
     let answer = book_compare::compare(&first[0..n], &second[0..m], &mut table[0..size]);
-    put_compared(answer, table);
-    true
+    put_compared(rt, answer, table)?;
+    Ok(true)
 }
 
 // Numbers of which each is another.
@@ -146,45 +161,46 @@ fn put_pattern(table: &mut [u64]) {
     }
 }
 
-fn put_compared(answer: Compared, table: &[u64]) {
+fn put_compared(rt: &impl Print, answer: Compared, table: &[u64]) -> io::Result<()> {
     match answer {
         Compared::Lines(n) => {
-            field(b"lines ", n);
-            put_sum(table);
-            put_lines(table, n);
+            field(rt, b"lines ", n)?;
+            put_sum(rt, table)?;
+            put_lines(rt, table, n)
         }
         Compared::Refused(number) => {
-            field(b"refused ", number as u64);
-            put_sum(table);
+            field(rt, b"refused ", number as u64)?;
+            put_sum(rt, table)
         }
     }
 }
 
 // The sum of all numbers of the table, used or not.
-fn put_sum(table: &[u64]) {
+fn put_sum(rt: &impl Print, table: &[u64]) -> io::Result<()> {
     let mut sum: u64 = 0;
     let mut i: usize = 0;
     while i < table.len() {
         sum = vectors::mix(sum, table[i]);
         i += 1;
     }
-    field(b" sum ", sum);
-    put(b"\n");
+    field(rt, b" sum ", sum)?;
+    put(rt, b"\n")
 }
 
-fn put_lines(table: &[u64], n: u64) {
+fn put_lines(rt: &impl Print, table: &[u64], n: u64) -> io::Result<()> {
     let mut at: usize = 0;
     let mut left = n;
     while left > 0 {
         if table.len() <= at {
-            return;
+            return Ok(());
         }
         if table.len() - at < 3 {
-            return;
+            return Ok(());
         }
         let end = at + 3;
-        fields(b"# # #\n", &table[at..end]);
+        fields(rt, b"# # #\n", &table[at..end])?;
         at = end;
         left -= 1;
     }
+    Ok(())
 }

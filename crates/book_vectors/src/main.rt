@@ -7,6 +7,8 @@ ghost use Rattle.std.specs.Prelude.{◌≡◌, length};
 use base::format;
 use book_check::Verdict;
 use cycle::CYCLE;
+use std::io;
+use std::io::Input;
 use vectors::{field, fields, filled, number, put};
 
 // 32 bodies and 128 bytes; a book of 32 cycles and 128 bytes.
@@ -14,18 +16,19 @@ const BODIES: usize = 2_097_280;
 
 const BOOK: usize = 2_097_668;
 
-fn main() {
+fn main(rt: HostRuntime) -> io::Result<()> {
     let mut body_space = blank_bodies();
     let mut book_space = blank_book();
     let bodies: &mut [u8] = &mut body_space;
     let book: &mut [u8] = &mut book_space;
     let mut left = vectors::MOST_RECORDS;
     while left > 0 {
-        if !turn(&mut *bodies, &mut *book) {
-            return;
+        if !turn(&rt, &mut *bodies, &mut *book)? {
+            return Ok(());
         }
         left -= 1;
     }
+    Ok(())
 }
 
 // Room for the bodies, and for the book. Callers know only the length, so that no check of theirs counts the bytes one by one.
@@ -43,38 +46,51 @@ fn blank_book() -> [u8; BOOK]
 
 // Reads a record and runs it; false at the end of the input, and where a record goes beyond an area. A record: the operation, three bytes of
 // nothing, a place or a length (4 bytes), and a number (8 bytes).
-fn turn(bodies: &mut [u8], book: &mut [u8]) -> bool {
+fn turn(rt: &(impl Input + Print), bodies: &mut [u8], book: &mut [u8]) -> io::Result<bool> {
     let mut record = [0u8; 16];
-    if !filled(&mut record) {
-        return false;
+    if !filled(rt, &mut record) {
+        return Ok(false);
     }
     let n = number(&record[4..8]) as usize;
-    run(record[0], n, number(&record[8..16]), bodies, book)
+    run(rt, record[0], n, number(&record[8..16]), bodies, book)
 }
 
-fn run(operation: u8, n: usize, value: u64, bodies: &mut [u8], book: &mut [u8]) -> bool {
+fn run(
+    rt: &(impl Input + Print),
+    operation: u8,
+    n: usize,
+    value: u64,
+    bodies: &mut [u8],
+    book: &mut [u8],
+) -> io::Result<bool> {
     match operation {
-        1 => return make_body(bodies, n, value),
-        2 => return patch(bodies, n, value),
-        3 => return write(bodies, n, value, book),
-        _ => return on_book(operation, n, value, book),
+        1 => return Ok(make_body(rt, bodies, n, value)),
+        2 => return Ok(patch(bodies, n, value)),
+        3 => return write(rt, bodies, n, value, book),
+        _ => return on_book(rt, operation, n, value, book),
     }
 }
 
-fn on_book(operation: u8, n: usize, value: u64, book: &mut [u8]) -> bool {
+fn on_book(
+    rt: &impl Print,
+    operation: u8,
+    n: usize,
+    value: u64,
+    book: &mut [u8],
+) -> io::Result<bool> {
     match operation {
-        4 => return patch(book, n, value),
-        5 => return fill(book, n, value),
-        _ => return ask(operation, n, value, book),
+        4 => return Ok(patch(book, n, value)),
+        5 => return Ok(fill(book, n, value)),
+        _ => return ask(rt, operation, n, value, book),
     }
 }
 
-fn ask(operation: u8, n: usize, i: u64, book: &[u8]) -> bool {
+fn ask(rt: &impl Print, operation: u8, n: usize, i: u64, book: &[u8]) -> io::Result<bool> {
     match operation {
-        6 => return view(book, n),
-        7 => return parts(book, n, i),
-        8 => return check(book, n),
-        _ => return false,
+        6 => return view(rt, book, n),
+        7 => return parts(rt, book, n, i),
+        8 => return check(rt, book, n),
+        _ => return Ok(false),
     }
 }
 
@@ -101,9 +117,9 @@ fn fill(area: &mut [u8], n: usize, value: u64) -> bool {
 }
 
 // Body i, made of a seed and the time code that follows.
-fn make_body(bodies: &mut [u8], i: usize, seed: u64) -> bool {
+fn make_body(rt: &impl Input, bodies: &mut [u8], i: usize, seed: u64) -> bool {
     let mut code = [0u8; 8];
-    if !filled(&mut code) {
+    if !filled(rt, &mut code) {
         return false;
     }
     if bodies.len() / CYCLE <= i {
@@ -179,95 +195,105 @@ fn set(area: &mut [u8], place: usize, value: u8) {
 
 // ---- what is asked
 
-fn write(bodies: &[u8], n: usize, year: u64, book: &mut [u8]) -> bool {
+fn write(
+    rt: &(impl Input + Print),
+    bodies: &[u8],
+    n: usize,
+    year: u64,
+    book: &mut [u8],
+) -> io::Result<bool> {
     let mut bytes = [0u8; 8];
-    if !filled(&mut bytes) {
-        return false;
+    if !filled(rt, &mut bytes) {
+        return Ok(false);
     }
     let length = number(&bytes) as usize;
     if bodies.len() < n {
-        return false;
+        return Ok(false);
     }
     if book.len() < length {
-        return false;
+        return Ok(false);
     }
-    put_written(year, &bodies[0..n], &mut book[0..length]);
-    true
+    put_written(rt, year, &bodies[0..n], &mut book[0..length])?;
+    Ok(true)
 }
 
-fn put_written(year: u64, bodies: &[u8], book: &mut [u8]) {
+fn put_written(rt: &impl Print, year: u64, bodies: &[u8], book: &mut [u8]) -> io::Result<()> {
     let answer = book_writer::write(year, bodies, &mut *book);
     let numbers = [answer as u64, vectors::checksum(book)];
-    fields(b"write # sum #\n", &numbers);
+    fields(rt, b"write # sum #\n", &numbers)
 }
 
-fn view(area: &[u8], n: usize) -> bool {
+fn view(rt: &impl Print, area: &[u8], n: usize) -> io::Result<bool> {
     if area.len() < n {
-        return false;
+        return Ok(false);
     }
-    put_view(&area[0..n]);
-    true
+    put_view(rt, &area[0..n])?;
+    Ok(true)
 }
 
-fn put_view(bytes: &[u8]) {
+fn put_view(rt: &impl Print, bytes: &[u8]) -> io::Result<()> {
     let numbers = [
         book::view_refusal(bytes) as u64,
         book_view::cycles_of(bytes),
         book_view::year_of(bytes),
     ];
-    fields(b"view # cycles # year #\n", &numbers);
+    fields(rt, b"view # cycles # year #\n", &numbers)
 }
 
-fn check(area: &[u8], n: usize) -> bool {
+fn check(rt: &impl Print, area: &[u8], n: usize) -> io::Result<bool> {
     if area.len() < n {
-        return false;
+        return Ok(false);
     }
     match book_check::check(&area[0..n]) {
-        Verdict::Accepted => put(b"check accepted\n"),
-        Verdict::Faulty { number, entry } => put_fault(number, entry),
+        Verdict::Accepted => put(rt, b"check accepted\n")?,
+        Verdict::Faulty { number, entry } => put_fault(rt, number, entry)?,
     }
-    true
+    Ok(true)
 }
 
-fn put_fault(number: u8, entry: u64) {
+fn put_fault(rt: &impl Print, number: u8, entry: u64) -> io::Result<()> {
     let numbers = [number as u64, entry];
-    fields(b"check # entry #\n", &numbers);
+    fields(rt, b"check # entry #\n", &numbers)
 }
 
-fn parts(area: &[u8], n: usize, i: u64) -> bool {
+fn parts(rt: &impl Print, area: &[u8], n: usize, i: u64) -> io::Result<bool> {
     if area.len() < n {
-        return false;
+        return Ok(false);
     }
-    put_parts(&area[0..n], i);
-    put_viewed(&area[0..n], i);
-    true
+    put_parts(rt, &area[0..n], i)?;
+    put_viewed(rt, &area[0..n], i)?;
+    Ok(true)
 }
 
 // By the slice, with the places.
-fn put_parts(bytes: &[u8], i: u64) {
-    field(b"part ", book_parts::part_refusal(bytes, i) as u64);
-    field(b" entry ", book_parts::entry_place(bytes, i).start as u64);
-    put_entry(book_parts::entry(bytes, i));
-    field(b" body ", book_parts::body_place(bytes, i).start as u64);
-    put_body_sum(book_parts::body(bytes, i));
+fn put_parts(rt: &impl Print, bytes: &[u8], i: u64) -> io::Result<()> {
+    field(rt, b"part ", book_parts::part_refusal(bytes, i) as u64)?;
+    field(
+        rt,
+        b" entry ",
+        book_parts::entry_place(bytes, i).start as u64,
+    )?;
+    put_entry(rt, book_parts::entry(bytes, i))?;
+    field(rt, b" body ", book_parts::body_place(bytes, i).start as u64)?;
+    put_body_sum(rt, book_parts::body(bytes, i))
 }
 
 // Through a view.
-fn put_viewed(bytes: &[u8], i: u64) {
-    field(b"view ", book_view::part_refusal_of(bytes, i) as u64);
-    put(b" entry");
-    put_entry(book_view::entry_of(bytes, i));
-    put(b" body");
-    put_body_sum(book_view::body_of(bytes, i));
+fn put_viewed(rt: &impl Print, bytes: &[u8], i: u64) -> io::Result<()> {
+    field(rt, b"view ", book_view::part_refusal_of(bytes, i) as u64)?;
+    put(rt, b" entry")?;
+    put_entry(rt, book_view::entry_of(bytes, i))?;
+    put(rt, b" body")?;
+    put_body_sum(rt, book_view::body_of(bytes, i))
 }
 
-fn put_entry(entry: &[u8]) {
+fn put_entry(rt: &impl Print, entry: &[u8]) -> io::Result<()> {
     let numbers = [entry.len() as u64];
-    fields(b" # ", &numbers);
-    vectors::put_bytes(entry);
+    fields(rt, b" # ", &numbers)?;
+    vectors::put_bytes(rt, entry)
 }
 
-fn put_body_sum(body: &[u8]) {
+fn put_body_sum(rt: &impl Print, body: &[u8]) -> io::Result<()> {
     let numbers = [body.len() as u64, vectors::checksum(body)];
-    fields(b" # #\n", &numbers);
+    fields(rt, b" # #\n", &numbers)
 }

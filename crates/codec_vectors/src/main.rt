@@ -4,6 +4,8 @@
 
 ghost use Rattle.std.specs.Prelude.{◌≤◌, length};
 
+use std::io;
+use std::io::Input;
 use time_code::TimeCode;
 use vectors::{number, put};
 
@@ -14,59 +16,60 @@ const OPERANDS: usize = 22;
 // Above these 63 bits of a pattern lie the NaNs.
 const INFINITY: u64 = 0x7FF0_0000_0000_0000;
 
-fn main() {
+fn main(rt: HostRuntime) -> io::Result<()> {
     let mut left = vectors::MOST_RECORDS;
     while left > 0 {
-        if !turn() {
-            return;
+        if !turn(&rt)? {
+            return Ok(());
         }
         left -= 1;
     }
+    Ok(())
 }
 
 // Reads a record and runs it; false at the end of the input.
-fn turn() -> bool {
+fn turn(rt: &(impl Input + Print)) -> io::Result<bool> {
     let mut record = [0u8; 32];
-    if vectors::filled(&mut record) {
-        return run(&record);
+    if vectors::filled(rt, &mut record) {
+        return run(rt, &record);
     }
-    false
+    Ok(false)
 }
 
-fn run(record: &[u8]) -> bool {
+fn run(rt: &impl Print, record: &[u8]) -> io::Result<bool> {
     if record.len() != RECORD {
-        return false;
+        return Ok(false);
     }
     let operation = record[0];
     let n = number(&record[1..2]) as usize;
     if OPERANDS < n {
-        return false;
+        return Ok(false);
     }
     let year = number(&record[2..10]);
     let operands = &record[10..32];
     if operation == 1 {
-        read_time(year, &operands[0..n]);
+        read_time(rt, year, &operands[0..n])?;
     }
     if operation == 2 {
-        write_time(year, operands, n);
+        write_time(rt, year, operands, n)?;
     }
     if operation == 3 {
-        read_number(&operands[0..n]);
+        read_number(rt, &operands[0..n])?;
     }
     if operation == 4 {
-        write_number(operands, n);
+        write_number(rt, operands, n)?;
     }
-    true
+    Ok(true)
 }
 
-fn read_time(year: u64, bytes: &[u8]) {
+fn read_time(rt: &impl Print, year: u64, bytes: &[u8]) -> io::Result<()> {
     match time_code::decode(year, bytes) {
-        time_code::Decoded::Time(t) => vectors::put_time(t.spacecraft, t.instant),
-        time_code::Decoded::Refused(r) => vectors::put_refusal(r),
+        time_code::Decoded::Time(t) => vectors::put_time(rt, t.spacecraft, t.instant),
+        time_code::Decoded::Refused(r) => vectors::put_refusal(rt, r),
     }
 }
 
-fn write_time(year: u64, operands: &[u8], n: usize)
+fn write_time(rt: &impl Print, year: u64, operands: &[u8], n: usize) -> io::Result<()>
     requires in_bounds { 22 ≤ length operands.now }
     requires n_bound { n ≤ 22 }
 {
@@ -77,17 +80,17 @@ fn write_time(year: u64, operands: &[u8], n: usize)
     let mut space = [0xA5u8; 22];
     let out = &mut space[0..n];
     let answer = time_code::encode(year, t, out);
-    written(out, answer);
+    written(rt, out, answer)
 }
 
-fn read_number(bytes: &[u8]) {
+fn read_number(rt: &impl Print, bytes: &[u8]) -> io::Result<()> {
     match float1750::decode(bytes) {
-        float1750::Decoded::Number(x) => vectors::put_double(x),
-        float1750::Decoded::Refused(r) => vectors::put_refusal(r),
+        float1750::Decoded::Number(x) => vectors::put_double(rt, x),
+        float1750::Decoded::Refused(r) => vectors::put_refusal(rt, r),
     }
 }
 
-fn write_number(operands: &[u8], n: usize)
+fn write_number(rt: &impl Print, operands: &[u8], n: usize) -> io::Result<()>
     requires in_bounds { 22 ≤ length operands.now }
     requires n_bound { n ≤ 22 }
 {
@@ -95,7 +98,7 @@ fn write_number(operands: &[u8], n: usize)
     let mut space = [0xA5u8; 22];
     let out = &mut space[0..n];
     let answer = float1750::encode(x, out);
-    written(out, answer);
+    written(rt, out, answer)
 }
 
 fn double(pattern: u64) -> f64 {
@@ -106,13 +109,13 @@ fn double(pattern: u64) -> f64 {
 }
 
 // The bytes that a writer left, and its answer.
-fn written(out: &[u8], answer: u8) {
-    put(b"[");
-    vectors::put_bytes(out);
-    put(b"] ");
+fn written(rt: &impl Print, out: &[u8], answer: u8) -> io::Result<()> {
+    put(rt, b"[")?;
+    vectors::put_bytes(rt, out)?;
+    put(rt, b"] ")?;
     if answer == 0 {
-        put(b"written\n");
-        return;
+        put(rt, b"written\n")?;
+        return Ok(());
     }
-    vectors::put_refusal(answer);
+    vectors::put_refusal(rt, answer)
 }

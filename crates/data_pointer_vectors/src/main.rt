@@ -3,28 +3,31 @@
 #![tactic(auto)]
 
 use data_pointer::Answer;
+use std::io;
+use std::io::Input;
 use vectors::{field, filled, number, put};
 
-fn main() {
+fn main(rt: HostRuntime) -> io::Result<()> {
     let mut left = vectors::MOST_RECORDS;
     while left > 0 {
-        if !turn() {
-            return;
+        if !turn(&rt)? {
+            return Ok(());
         }
         left -= 1;
     }
+    Ok(())
 }
 
 // Reads a record and runs it; false at the end of the input. A record: the operation, a pointer and a number (8 bytes each).
-fn turn() -> bool {
+fn turn(rt: &(impl Input + Print)) -> io::Result<bool> {
     let mut record = [0u8; 17];
-    if !filled(&mut record) {
-        return false;
+    if !filled(rt, &mut record) {
+        return Ok(false);
     }
     let p = number(&record[1..9]);
     let n = number(&record[9..17]);
-    put_answer(run(record[0], p, n));
-    true
+    put_answer(rt, run(record[0], p, n))?;
+    Ok(true)
 }
 
 fn run(operation: u8, p: u64, n: u64) -> Answer {
@@ -36,12 +39,12 @@ fn run(operation: u8, p: u64, n: u64) -> Answer {
     }
 }
 
-fn put_answer(answer: Answer) {
+fn put_answer(rt: &impl Print, answer: Answer) -> io::Result<()> {
     match answer {
         Answer::Given(v) => {
-            field(b"", v);
-            put(b"\n");
+            field(rt, b"", v)?;
+            put(rt, b"\n")
         }
-        Answer::Refused(r) => vectors::put_refusal(r),
+        Answer::Refused(r) => vectors::put_refusal(rt, r),
     }
 }

@@ -2,6 +2,8 @@
 // the lines that it worked out by other means.
 #![tactic(auto)]
 
+use std::io;
+use std::io::Input;
 use vectors::number;
 
 const LINE: usize = 1152;
@@ -11,42 +13,43 @@ const SIGN_BIT: u64 = 1 << 63;
 
 const INFINITY: u64 = 0x7FF0_0000_0000_0000;
 
-fn main() {
+fn main(rt: HostRuntime) -> io::Result<()> {
     let mut left = vectors::MOST_RECORDS;
     while left > 0 {
-        if !turn() {
-            return;
+        if !turn(&rt)? {
+            return Ok(());
         }
         left -= 1;
     }
+    Ok(())
 }
 
 // Reads a double and writes its line; false at the end of the input.
-fn turn() -> bool {
+fn turn(rt: &(impl Input + Print)) -> io::Result<bool> {
     let mut record = [0u8; 8];
-    if vectors::filled(&mut record) {
-        show(number(&record));
-        return true;
+    if vectors::filled(rt, &mut record) {
+        show(rt, number(&record))?;
+        return Ok(true);
     }
-    false
+    Ok(false)
 }
 
 // A NaN is written as one: the bits of it that are not fixed cannot be had.
-fn show(bits: u64) {
+fn show(rt: &impl Print, bits: u64) -> io::Result<()> {
     if INFINITY < bits % SIGN_BIT {
-        vectors::put(b"nan\n");
-        return;
+        vectors::put(rt, b"nan\n")?;
+        return Ok(());
     }
-    show_double(f64::from_bits(bits));
+    show_double(rt, f64::from_bits(bits))
 }
 
-fn show_double(x: f64) {
+fn show_double(rt: &impl Print, x: f64) -> io::Result<()> {
     let mut space = [0u8; LINE];
-    show_in(&mut space, x);
+    show_in(rt, &mut space, x)
 }
 
-fn show_in(line: &mut [u8], x: f64) {
+fn show_in(rt: &impl Print, line: &mut [u8], x: f64) -> io::Result<()> {
     let n = double_text::put_double(&mut *line, 0, x);
     let end = command::put_byte(&mut *line, n, b'\n');
-    vectors::put(&line[..end]);
+    vectors::put(rt, &line[..end])
 }

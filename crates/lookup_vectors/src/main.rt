@@ -5,50 +5,58 @@
 ghost use Rattle.std.specs.Prelude.{◌<◌};
 
 use lookup::Found;
+use std::io;
+use std::io::Input;
 use vectors::{field, filled, filled_numbers, number, put};
 
-fn main() {
+fn main(rt: HostRuntime) -> io::Result<()> {
     // One more than the lookup takes.
     let mut space = [0u64; 100_001];
     let instants: &mut [u64] = &mut space;
     let mut left = vectors::MOST_RECORDS;
     while left > 0 {
-        if !turn(&mut *instants) {
-            return;
+        if !turn(&rt, &mut *instants)? {
+            return Ok(());
         }
         left -= 1;
     }
+    Ok(())
 }
 
 // Reads a record and runs it on the first instants; false at the end of the input. A record: the operation, three bytes of nothing, how many
 // instants (4 bytes), and a number (8 bytes).
-fn turn(instants: &mut [u64]) -> bool {
+fn turn(rt: &(impl Input + Print), instants: &mut [u64]) -> io::Result<bool> {
     let mut record = [0u8; 16];
-    if !filled(&mut record) {
-        return false;
+    if !filled(rt, &mut record) {
+        return Ok(false);
     }
     let n = number(&record[4..8]) as usize;
     if instants.len() < n {
-        return false;
+        return Ok(false);
     }
-    run(record[0], &mut instants[0..n], number(&record[8..16]))
+    run(rt, record[0], &mut instants[0..n], number(&record[8..16]))
 }
 
-fn run(operation: u8, instants: &mut [u64], value: u64) -> bool {
+fn run(
+    rt: &(impl Input + Print),
+    operation: u8,
+    instants: &mut [u64],
+    value: u64,
+) -> io::Result<bool> {
     match operation {
-        1 => return filled_numbers(instants),
-        2 => return load_series(instants, value),
+        1 => return Ok(filled_numbers(rt, instants)),
+        2 => return Ok(load_series(rt, instants, value)),
         _ => {
-            put_found(lookup::find(instants, value));
-            return true;
+            put_found(rt, lookup::find(instants, value))?;
+            return Ok(true);
         }
     }
 }
 
 // Fills the list with a series, whose step and modulus are read from the input.
-fn load_series(instants: &mut [u64], first: u64) -> bool {
+fn load_series(rt: &impl Input, instants: &mut [u64], first: u64) -> bool {
     let mut bytes = [0u8; 16];
-    if !filled(&mut bytes) {
+    if !filled(rt, &mut bytes) {
         return false;
     }
     let step = number(&bytes[0..8]);
@@ -73,21 +81,21 @@ fn put_series(instants: &mut [u64], first: u64, step: u64, modulus: u64)
     }
 }
 
-fn put_found(found: Found) {
+fn put_found(rt: &impl Print, found: Found) -> io::Result<()> {
     match found {
         Found::At { place, looks } => {
-            field(b"at ", place as u64);
-            put_looks(looks);
+            field(rt, b"at ", place as u64)?;
+            put_looks(rt, looks)
         }
         Found::Nothing { looks } => {
-            put(b"none");
-            put_looks(looks);
+            put(rt, b"none")?;
+            put_looks(rt, looks)
         }
-        Found::Refused(r) => vectors::put_refusal(r),
+        Found::Refused(r) => vectors::put_refusal(rt, r),
     }
 }
 
-fn put_looks(looks: usize) {
-    field(b" looks ", looks as u64);
-    put(b"\n");
+fn put_looks(rt: &impl Print, looks: usize) -> io::Result<()> {
+    field(rt, b" looks ", looks as u64)?;
+    put(rt, b"\n")
 }

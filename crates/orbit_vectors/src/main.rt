@@ -8,44 +8,47 @@ use orbit::clock::Clock;
 use orbit::ephemeris::Ephemeris;
 use orbit::gyro_drift::GyroDrift;
 use orbit::temperatures::Temperatures;
+use std::io;
+use std::io::Input;
 use vectors::{field, filled, number, put, put_double};
 
 const ROOM: usize = 65_664;
 
-fn main() {
+fn main(rt: HostRuntime) -> io::Result<()> {
     let mut space = [0u8; ROOM];
     let area: &mut [u8] = &mut space;
     let mut left = vectors::MOST_RECORDS;
     while left > 0 {
-        if !turn(&mut *area) {
-            return;
+        if !turn(&rt, &mut *area)? {
+            return Ok(());
         }
         left -= 1;
     }
+    Ok(())
 }
 
 // Reads a record and runs it; false at the end of the input, and where a record goes beyond the area. A record: the operation, three bytes of
 // nothing, a place or a length (4 bytes), a value or a year (8 bytes), and a major frame (8 bytes).
-fn turn(area: &mut [u8]) -> bool {
+fn turn(rt: &(impl Input + Print), area: &mut [u8]) -> io::Result<bool> {
     let mut record = [0u8; 24];
-    if !filled(&mut record) {
-        return false;
+    if !filled(rt, &mut record) {
+        return Ok(false);
     }
     let n = number(&record[4..8]) as usize;
     let value = number(&record[8..16]);
     let k = number(&record[16..24]);
     match record[0] {
-        1 => return load(area),
-        2 => return patch(area, n, value),
-        3 => return ask(area, n, value, k),
-        _ => return false,
+        1 => return Ok(load(rt, area)),
+        2 => return Ok(patch(area, n, value)),
+        3 => return ask(rt, area, n, value, k),
+        _ => return Ok(false),
     }
 }
 
 // Word 72 of the 512 minor frames follows.
-fn load(area: &mut [u8]) -> bool {
+fn load(rt: &impl Input, area: &mut [u8]) -> bool {
     let mut columns = [0u8; 512];
-    if !filled(&mut columns) {
+    if !filled(rt, &mut columns) {
         return false;
     }
     put_frames(area, &columns);
@@ -81,77 +84,77 @@ fn patch(area: &mut [u8], place: usize, value: u64) -> bool {
 }
 
 // All records of the first n bytes.
-fn ask(area: &[u8], n: usize, year: u64, k: u64) -> bool {
+fn ask(rt: &impl Print, area: &[u8], n: usize, year: u64, k: u64) -> io::Result<bool> {
     if area.len() < n {
-        return false;
+        return Ok(false);
     }
     let body = &area[0..n];
-    put_temperatures(orbit::temperatures::read(body, year, k));
-    put_gyro_drift(orbit::gyro_drift::read(body, year));
-    put_attitude(orbit::attitude::read(body, year, k));
-    put_clock(orbit::clock::read(body, year));
-    put_ephemeris(orbit::ephemeris::read(body, year, k));
-    true
+    put_temperatures(rt, orbit::temperatures::read(body, year, k))?;
+    put_gyro_drift(rt, orbit::gyro_drift::read(body, year))?;
+    put_attitude(rt, orbit::attitude::read(body, year, k))?;
+    put_clock(rt, orbit::clock::read(body, year))?;
+    put_ephemeris(rt, orbit::ephemeris::read(body, year, k))?;
+    Ok(true)
 }
 
-fn put_temperatures(r: Temperatures) {
-    field(b"temperatures ", r.refusal as u64);
-    put(b"\n");
-    put_double(r.temp1);
-    put_double(r.temp2);
-    put_double(r.temp3);
-    put_double(r.temp4);
+fn put_temperatures(rt: &impl Print, r: Temperatures) -> io::Result<()> {
+    field(rt, b"temperatures ", r.refusal as u64)?;
+    put(rt, b"\n")?;
+    put_double(rt, r.temp1)?;
+    put_double(rt, r.temp2)?;
+    put_double(rt, r.temp3)?;
+    put_double(rt, r.temp4)
 }
 
-fn put_gyro_drift(r: GyroDrift) {
-    field(b"gyro drift ", r.refusal as u64);
-    field(b" at ", r.instant);
-    put(b"\n");
-    put_double(r.x);
-    put_double(r.y);
-    put_double(r.z);
+fn put_gyro_drift(rt: &impl Print, r: GyroDrift) -> io::Result<()> {
+    field(rt, b"gyro drift ", r.refusal as u64)?;
+    field(rt, b" at ", r.instant)?;
+    put(rt, b"\n")?;
+    put_double(rt, r.x)?;
+    put_double(rt, r.y)?;
+    put_double(rt, r.z)
 }
 
-fn put_attitude(r: Attitude) {
-    field(b"attitude ", r.refusal as u64);
-    field(b" at ", r.instant);
-    put_integer(r.epa1);
-    put_integer(r.epa2);
-    put_integer(r.epa3);
-    put_integer(r.epa4);
-    put(b"\n");
+fn put_attitude(rt: &impl Print, r: Attitude) -> io::Result<()> {
+    field(rt, b"attitude ", r.refusal as u64)?;
+    field(rt, b" at ", r.instant)?;
+    put_integer(rt, r.epa1)?;
+    put_integer(rt, r.epa2)?;
+    put_integer(rt, r.epa3)?;
+    put_integer(rt, r.epa4)?;
+    put(rt, b"\n")
 }
 
 // An integer of 32 bits, by how far it lies above the least.
-fn put_integer(x: i64) {
+fn put_integer(rt: &impl Print, x: i64) -> io::Result<()> {
     if x < -2_147_483_648 {
-        put(b" below");
-        return;
+        put(rt, b" below")?;
+        return Ok(());
     }
     if 2_147_483_647 < x {
-        put(b" above");
-        return;
+        put(rt, b" above")?;
+        return Ok(());
     }
-    field(b" ", (x + 2_147_483_648) as u64);
+    field(rt, b" ", (x + 2_147_483_648) as u64)
 }
 
-fn put_clock(r: Clock) {
-    field(b"clock ", r.refusal as u64);
-    field(b" bias ", r.bias);
-    field(b" rate ", r.rate);
-    field(b" acceleration ", r.acceleration);
-    put(b"\n");
-    put_double(r.updated);
+fn put_clock(rt: &impl Print, r: Clock) -> io::Result<()> {
+    field(rt, b"clock ", r.refusal as u64)?;
+    field(rt, b" bias ", r.bias)?;
+    field(rt, b" rate ", r.rate)?;
+    field(rt, b" acceleration ", r.acceleration)?;
+    put(rt, b"\n")?;
+    put_double(rt, r.updated)
 }
 
-fn put_ephemeris(r: Ephemeris) {
-    field(b"ephemeris ", r.refusal as u64);
-    field(b" at ", r.instant);
-    put(b"\n");
-    put_double(r.x);
-    put_double(r.y);
-    put_double(r.z);
-    put_double(r.vx);
-    put_double(r.vy);
-    put_double(r.vz);
+fn put_ephemeris(rt: &impl Print, r: Ephemeris) -> io::Result<()> {
+    field(rt, b"ephemeris ", r.refusal as u64)?;
+    field(rt, b" at ", r.instant)?;
+    put(rt, b"\n")?;
+    put_double(rt, r.x)?;
+    put_double(rt, r.y)?;
+    put_double(rt, r.z)?;
+    put_double(rt, r.vx)?;
+    put_double(rt, r.vy)?;
+    put_double(rt, r.vz)
 }

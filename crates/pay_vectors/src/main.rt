@@ -4,19 +4,22 @@
 
 ghost use Rattle.std.specs.Prelude.{◌<◌};
 
+use std::io;
+use std::io::Input;
 use vectors::{filled, number, put};
 
-fn main() {
+fn main(rt: HostRuntime) -> io::Result<()> {
     // Two instants more than the lookup takes.
     let mut space = [0u8; 800_016];
     let bytes: &mut [u8] = &mut space;
     let mut left = vectors::MOST_RECORDS;
     while left > 0 {
-        if !turn(&mut *bytes) {
-            return;
+        if !turn(&rt, &mut *bytes)? {
+            return Ok(());
         }
         left -= 1;
     }
+    Ok(())
 }
 
 // What a record asks for.
@@ -33,14 +36,14 @@ struct Asked {
 
 // Reads a record and runs it on the first bytes; false at the end of the input. A record: the operation, the length of the answer, three copies,
 // three bytes of nothing, how many bytes (8 bytes), and a number (8 bytes).
-fn turn(bytes: &mut [u8]) -> bool {
+fn turn(rt: &(impl Input + Print), bytes: &mut [u8]) -> io::Result<bool> {
     let mut record = [0u8; 24];
-    if !filled(&mut record) {
-        return false;
+    if !filled(rt, &mut record) {
+        return Ok(false);
     }
     let n = number(&record[8..16]);
     if (bytes.len() as u64) < n {
-        return false;
+        return Ok(false);
     }
     let asked = Asked {
         operation: record[0],
@@ -50,25 +53,25 @@ fn turn(bytes: &mut [u8]) -> bool {
         third: record[4],
         value: number(&record[16..24]),
     };
-    run(asked, &mut bytes[0..n as usize])
+    run(rt, asked, &mut bytes[0..n as usize])
 }
 
-fn run(asked: Asked, bytes: &mut [u8]) -> bool {
+fn run(rt: &(impl Input + Print), asked: Asked, bytes: &mut [u8]) -> io::Result<bool> {
     let operation = asked.operation;
     match operation {
-        6 => return filled(bytes),
-        7 => return load_series(bytes),
+        6 => return Ok(filled(rt, bytes)),
+        7 => return Ok(load_series(rt, bytes)),
         _ => {
             let mut answer = [0xEEu8; 20];
-            return put_answer(asked, bytes, &mut answer);
+            return put_answer(rt, asked, bytes, &mut answer);
         }
     }
 }
 
 // Fills the bytes with the instants of a series, whose first one, step and modulus are read from the input.
-fn load_series(bytes: &mut [u8]) -> bool {
+fn load_series(rt: &impl Input, bytes: &mut [u8]) -> bool {
     let mut given = [0u8; 24];
-    if !filled(&mut given) {
+    if !filled(rt, &mut given) {
         return false;
     }
     let first = number(&given[0..8]);
@@ -97,17 +100,17 @@ fn put_series(bytes: &mut [u8], first: u64, step: u64, modulus: u64)
 }
 
 // Lends the first bytes of an answer, and writes what is returned and all that the answer then holds.
-fn put_answer(asked: Asked, bytes: &[u8], answer: &mut [u8]) -> bool {
+fn put_answer(rt: &impl Print, asked: Asked, bytes: &[u8], answer: &mut [u8]) -> io::Result<bool> {
     let lent = asked.lent as usize;
     if answer.len() < lent {
-        return false;
+        return Ok(false);
     }
     let returned = call(asked, bytes, &mut answer[0..lent]);
-    vectors::put_number(returned as u64);
-    put(b" ");
-    vectors::put_bytes(answer);
-    put(b"\n");
-    true
+    vectors::put_number(rt, returned as u64)?;
+    put(rt, b" ")?;
+    vectors::put_bytes(rt, answer)?;
+    put(rt, b"\n")?;
+    Ok(true)
 }
 
 fn call(asked: Asked, bytes: &[u8], answer: &mut [u8]) -> u8 {

@@ -13,6 +13,8 @@ use feeding::Stepped;
 use labelling::Tally;
 use reader::Taken;
 use shifts::Shifts;
+use std::io;
+use std::io::Input;
 use vectors::{filled, mix, number, sum};
 
 const ROOM: usize = 140_000;
@@ -30,68 +32,70 @@ pub(crate) struct Reading {
     pub(crate) shifts: Shifts,
 }
 
-fn main() {
+fn main(rt: HostRuntime) -> io::Result<()> {
     let mut left = vectors::MOST_RECORDS;
     while left > 0 {
-        if !turn() {
-            return;
+        if !turn(&rt)? {
+            return Ok(());
         }
         left -= 1;
     }
+    Ok(())
 }
 
 // Reads a record and runs it; false at the end of the input.
-fn turn() -> bool {
+fn turn(rt: &(impl Input + Print)) -> io::Result<bool> {
     let mut header = [0u8; 108];
-    if !filled(&mut header) {
-        return false;
+    if !filled(rt, &mut header) {
+        return Ok(false);
     }
-    record(&header)
+    record(rt, &header)
 }
 
 // The record that begins so.
-fn record(header: &[u8]) -> bool
+fn record(rt: &(impl Input + Print), header: &[u8]) -> io::Result<bool>
     requires { length header.now ≡ 108 }
 {
     let n = number(&header[0..4]) as usize;
     if ROOM < n {
-        return false;
+        return Ok(false);
     }
     let mut space = [0u8; 140000];
     let stream = &mut space[0..n];
-    if !filled(&mut *stream) {
-        return false;
+    if !filled(rt, &mut *stream) {
+        return Ok(false);
     }
     let s = shifts::begun(&header[36..100]);
-    every_cut(stream, &header[4..36], s, number(&header[100..108]));
-    true
+    every_cut(rt, stream, &header[4..36], s, number(&header[100..108]))?;
+    Ok(true)
 }
 
 // Reads the stream by the rule in pieces of each of these eight lengths.
-fn every_cut(stream: &[u8], lengths: &[u8], s: Shifts, rule: u64)
+fn every_cut(rt: &impl Print, stream: &[u8], lengths: &[u8], s: Shifts, rule: u64) -> io::Result<()>
     requires { length lengths.now ≡ 32 }
 {
     let mut k: usize = 0;
     while k < 8 {
         let start = 4 * k;
         let end = start + 4;
-        one_cut(stream, &lengths[start..end], s, rule);
+        one_cut(rt, stream, &lengths[start..end], s, rule)?;
         k += 1;
     }
+    Ok(())
 }
 
 // Reads the stream in pieces of this length; 0 is no length.
-fn one_cut(stream: &[u8], length: &[u8], s: Shifts, rule: u64) {
+fn one_cut(rt: &impl Print, stream: &[u8], length: &[u8], s: Shifts, rule: u64) -> io::Result<()> {
     let piece = number(length) as usize;
     if piece == 0 {
-        return;
+        return Ok(());
     }
     let begun = reader::fresh(rule);
-    report::heading(stream.len(), piece, rule, begun.refusal);
+    report::heading(rt, stream.len(), piece, rule, begun.refusal)?;
     let mut space = [0u8; 16384];
     let area: &mut [u8] = &mut space;
-    let r = read_stream(from_tally(begun.tally, s), stream, piece, &mut *area);
-    report::whole(r, area);
+    let r = read_stream(rt, from_tally(begun.tally, s), stream, piece, &mut *area)?;
+    report::whole(rt, r, area)
 }
 
 fn from_tally(t: Tally, s: Shifts) -> Reading {
@@ -105,7 +109,13 @@ fn from_tally(t: Tally, s: Shifts) -> Reading {
     }
 }
 
-fn read_stream(begun: Reading, stream: &[u8], piece: usize, area: &mut [u8]) -> Reading
+fn read_stream(
+    rt: &impl Print,
+    begun: Reading,
+    stream: &[u8],
+    piece: usize,
+    area: &mut [u8],
+) -> io::Result<Reading>
     requires { length area.old ≡ 16384 }
 {
     let mut r = probe(begun, &mut *area);
@@ -113,27 +123,27 @@ fn read_stream(begun: Reading, stream: &[u8], piece: usize, area: &mut [u8]) -> 
     while at < stream.len() {
         let t = r.tally;
         let s = feeding::step(t, stream, at, piece, &mut *area);
-        r = stepped(r, s, &mut *area);
+        r = stepped(rt, r, s, &mut *area)?;
         let a = s.taken;
         if a.refusal != 0 {
-            return r;
+            return Ok(r);
         }
         at = s.at;
     }
-    r
+    Ok(r)
 }
 
 // The reading after a step: a major frame that it completed is reported, and after each piece the reader is probed.
-fn stepped(r: Reading, s: Stepped, area: &mut [u8]) -> Reading
+fn stepped(rt: &impl Print, r: Reading, s: Stepped, area: &mut [u8]) -> io::Result<Reading>
     requires { length area.old ≡ 16384 }
 {
     let a = s.taken;
-    report::paid(a.complete, a.tally.groups.bytes, area);
+    report::paid(rt, a.complete, a.tally.groups.bytes, area)?;
     let next = answered(r, a);
     if s.at < s.end {
-        return next;
+        return Ok(next);
     }
-    probe(next, area)
+    Ok(probe(next, area))
 }
 
 // Between two pieces the next operator is named, after two calls that leave all as it is.

@@ -2,36 +2,45 @@
 use crate::Reading;
 use base::wide;
 use labelling::{Framing, Groups, Operators, Runs, Tally};
+use std::io;
 use vectors::{bit, checksum, fields};
 
 // Which rule was asked for, and whether that was refused.
-pub(crate) fn heading(length: usize, piece: usize, rule: u64, refusal: u8) {
+pub(crate) fn heading(
+    rt: &impl Print,
+    length: usize,
+    piece: usize,
+    rule: u64,
+    refusal: u8,
+) -> io::Result<()> {
     let numbers = [length as u64, piece as u64, rule, wide(refusal)];
     fields(
+        rt,
         b"stream of # bytes in pieces of # by rule # refused #\n",
         &numbers,
-    );
+    )
 }
 
 // A line for a major frame that is paid: how many bytes are taken, and the area.
-pub(crate) fn paid(complete: bool, bytes: u64, area: &[u8]) {
+pub(crate) fn paid(rt: &impl Print, complete: bool, bytes: u64, area: &[u8]) -> io::Result<()> {
     if complete {
         let numbers = [bytes, checksum(area)];
-        fields(b"paid at # area #\n", &numbers);
+        fields(rt, b"paid at # area #\n", &numbers)?;
     }
+    Ok(())
 }
 
-pub(crate) fn whole(r: Reading, area: &[u8]) {
+pub(crate) fn whole(rt: &impl Print, r: Reading, area: &[u8]) -> io::Result<()> {
     let t = r.tally;
-    groups(t.groups);
-    framing(t.framing);
-    runs(t.runs);
-    paid_to(t.operators, t.rule);
-    kept(t);
-    called(r, checksum(area));
+    groups(rt, t.groups)?;
+    framing(rt, t.framing)?;
+    runs(rt, t.runs)?;
+    paid_to(rt, t.operators, t.rule)?;
+    kept(rt, t)?;
+    called(rt, r, checksum(area))
 }
 
-fn groups(g: Groups) {
+fn groups(rt: &impl Print, g: Groups) -> io::Result<()> {
     let numbers = [
         g.bytes,
         g.fill,
@@ -44,31 +53,36 @@ fn groups(g: Groups) {
         g.open,
     ];
     fields(
+        rt,
         b"bytes # fill # stray # voted # split # weak1 # weak2 # weak3 # open #",
         &numbers,
-    );
+    )
 }
 
-fn framing(f: Framing) {
+fn framing(rt: &impl Print, f: Framing) -> io::Result<()> {
     let numbers = [f.hunted, f.good, f.damaged, f.unsynced, f.placed];
-    fields(b" hunted # good # damaged # unsynced # placed #", &numbers);
+    fields(
+        rt,
+        b" hunted # good # damaged # unsynced # placed #",
+        &numbers,
+    )
 }
 
-fn runs(r: Runs) {
+fn runs(rt: &impl Print, r: Runs) -> io::Result<()> {
     let numbers = [r.majors, r.broken, r.loose, r.building];
-    fields(b" majors # broken # loose # building #\n", &numbers);
+    fields(rt, b" majors # broken # loose # building #\n", &numbers)
 }
 
 // The operators' counts, who is on duty, and the rule.
-fn paid_to(o: Operators, rule: u64) {
+fn paid_to(rt: &impl Print, o: Operators, rule: u64) -> io::Result<()> {
     let paid = o.paid;
     let numbers = [o.duty, rule];
-    fields(b"paid to # # # # # # # #", &paid);
-    fields(b" duty # rule #\n", &numbers);
+    fields(rt, b"paid to # # # # # # # #", &paid)?;
+    fields(rt, b" duty # rule #\n", &numbers)
 }
 
 // What the tally holds beside the counts.
-fn kept(t: Tally) {
+fn kept(rt: &impl Print, t: Tally) -> io::Result<()> {
     let frame = t.frame;
     let numbers = [
         bit(t.framing.hunting),
@@ -78,11 +92,15 @@ fn kept(t: Tally) {
         wide(t.groups.second),
         checksum(&frame),
     ];
-    fields(b"hunting # match # hole # copies # # frame #\n", &numbers);
+    fields(
+        rt,
+        b"hunting # match # hole # copies # # frame #\n",
+        &numbers,
+    )
 }
 
 // How the calls answered.
-fn called(r: Reading, area: u64) {
+fn called(rt: &impl Print, r: Reading, area: u64) -> io::Result<()> {
     let numbers = [
         area,
         r.calls,
@@ -93,7 +111,8 @@ fn called(r: Reading, area: u64) {
         r.otherwise,
     ];
     fields(
+        rt,
         b"area # calls # answers # changed # refused 2: # refused 14: # otherwise: #\n",
         &numbers,
-    );
+    )
 }

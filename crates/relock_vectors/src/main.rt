@@ -7,6 +7,8 @@ mod report;
 ghost use Rattle.std.specs.Prelude.{◌≡◌, length};
 
 use relocking::Feeder;
+use std::io;
+use std::io::Input;
 use vectors::{filled, number, sum};
 
 const ROOM: usize = 140_000;
@@ -23,66 +25,68 @@ pub(crate) struct Reading {
     pub(crate) refusal: u8,
 }
 
-fn main() {
+fn main(rt: HostRuntime) -> io::Result<()> {
     let mut left = vectors::MOST_RECORDS;
     while left > 0 {
-        if !turn() {
-            return;
+        if !turn(&rt)? {
+            return Ok(());
         }
         left -= 1;
     }
+    Ok(())
 }
 
 // Reads a record and runs it; false at the end of the input.
-fn turn() -> bool {
+fn turn(rt: &(impl Input + Print)) -> io::Result<bool> {
     let mut header = [0u8; 44];
-    if !filled(&mut header) {
-        return false;
+    if !filled(rt, &mut header) {
+        return Ok(false);
     }
-    record(&header)
+    record(rt, &header)
 }
 
 // The record that begins so.
-fn record(header: &[u8]) -> bool
+fn record(rt: &(impl Input + Print), header: &[u8]) -> io::Result<bool>
     requires { length header.now ≡ 44 }
 {
     let n = number(&header[0..4]) as usize;
     if ROOM < n {
-        return false;
+        return Ok(false);
     }
     let mut space = [0u8; 140000];
     let reel = &mut space[0..n];
-    if !filled(&mut *reel) {
-        return false;
+    if !filled(rt, &mut *reel) {
+        return Ok(false);
     }
-    every_cut(reel, &header[4..36], number(&header[36..44]));
-    true
+    every_cut(rt, reel, &header[4..36], number(&header[36..44]))?;
+    Ok(true)
 }
 
 // Reads the reel by the rule in pieces of each of these eight lengths.
-fn every_cut(reel: &[u8], lengths: &[u8], rule: u64)
+fn every_cut(rt: &impl Print, reel: &[u8], lengths: &[u8], rule: u64) -> io::Result<()>
     requires { length lengths.now ≡ 32 }
 {
     let mut k: usize = 0;
     while k < 8 {
         let start = 4 * k;
         let end = start + 4;
-        one_cut(reel, &lengths[start..end], rule);
+        one_cut(rt, reel, &lengths[start..end], rule)?;
         k += 1;
     }
+    Ok(())
 }
 
 // Reads the reel in pieces of this length; 0 is no length.
-fn one_cut(reel: &[u8], length: &[u8], rule: u64) {
+fn one_cut(rt: &impl Print, reel: &[u8], length: &[u8], rule: u64) -> io::Result<()> {
     let piece = number(length);
     if piece == 0 {
-        return;
+        return Ok(());
     }
-    report::heading(reel.len(), piece, rule);
+    report::heading(rt, reel.len(), piece, rule)?;
     let mut space = [0u8; 16384];
     let area: &mut [u8] = &mut space;
-    let r = read_reel(begun(rule), reel, piece, &mut *area);
-    report::whole(r, area);
+    let r = read_reel(rt, begun(rule), reel, piece, &mut *area)?;
+    report::whole(rt, r, area)
 }
 
 fn begun(rule: u64) -> Reading {
@@ -101,17 +105,23 @@ fn begun(rule: u64) -> Reading {
     }
 }
 
-fn read_reel(begun: Reading, reel: &[u8], piece: u64, area: &mut [u8]) -> Reading {
+fn read_reel(
+    rt: &impl Print,
+    begun: Reading,
+    reel: &[u8],
+    piece: u64,
+    area: &mut [u8],
+) -> io::Result<Reading> {
     let mut r = begun;
     let mut left = MOST_STEPS;
     while left > 0 {
         if is_done(r, reel.len()) {
-            return r;
+            return Ok(r);
         }
-        r = step(r, reel, piece, &mut *area);
+        r = step(rt, r, reel, piece, &mut *area)?;
         left -= 1;
     }
-    r
+    Ok(r)
 }
 
 fn is_done(r: Reading, size: usize) -> bool {
@@ -122,19 +132,25 @@ fn is_done(r: Reading, size: usize) -> bool {
 }
 
 // One step on the bytes in hand. A major frame that it completed is reported.
-fn step(r: Reading, reel: &[u8], piece: u64, area: &mut [u8]) -> Reading {
+fn step(
+    rt: &impl Print,
+    r: Reading,
+    reel: &[u8],
+    piece: u64,
+    area: &mut [u8],
+) -> io::Result<Reading> {
     let f = r.feeder;
     let size = reel.len() as u64;
     let a = relocking::relock(f, in_hand(reel, r.at, r.end), size <= r.end, &mut *area);
     let at = sum(r.at, a.taken as u64);
-    report::paid(a.complete, at, area);
+    report::paid(rt, a.complete, at, area)?;
     let next = a.feeder;
-    Reading {
+    Ok(Reading {
         feeder: next,
         at: at,
         end: further(r.end, a.more | (r.end <= at), piece, size),
         refusal: a.refusal,
-    }
+    })
 }
 
 fn in_hand(reel: &[u8], at: u64, end: u64) -> &[u8] {

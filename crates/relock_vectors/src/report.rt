@@ -2,39 +2,42 @@
 use crate::Reading;
 use base::wide;
 use labelling::{Framing, Groups, Runs, Tally};
+use std::io;
 use vectors::{bit, checksum, fields};
 
-pub(crate) fn heading(length: usize, piece: u64, rule: u64) {
+pub(crate) fn heading(rt: &impl Print, length: usize, piece: u64, rule: u64) -> io::Result<()> {
     let numbers = [length as u64, piece, rule];
-    fields(b"reel of # bytes in pieces of # by rule #\n", &numbers);
+    fields(rt, b"reel of # bytes in pieces of # by rule #\n", &numbers)
 }
 
 // A line for a major frame that is paid: how many bytes of the reel are taken, and the area.
-pub(crate) fn paid(complete: bool, at: u64, area: &[u8]) {
+pub(crate) fn paid(rt: &impl Print, complete: bool, at: u64, area: &[u8]) -> io::Result<()> {
     if complete {
         let numbers = [at, checksum(area)];
-        fields(b"paid at # area #\n", &numbers);
+        fields(rt, b"paid at # area #\n", &numbers)?;
     }
+    Ok(())
 }
 
-pub(crate) fn whole(r: Reading, area: &[u8]) {
-    refused(r.refusal);
+pub(crate) fn whole(rt: &impl Print, r: Reading, area: &[u8]) -> io::Result<()> {
+    refused(rt, r.refusal)?;
     let t = r.feeder.tally;
-    groups(t.groups);
-    framing(t.framing);
-    runs(t.runs);
-    kept(t);
-    locked(r.feeder.handed, r.feeder.awaits, checksum(area));
+    groups(rt, t.groups)?;
+    framing(rt, t.framing)?;
+    runs(rt, t.runs)?;
+    kept(rt, t)?;
+    locked(rt, r.feeder.handed, r.feeder.awaits, checksum(area))
 }
 
 // No step here may be refused.
-fn refused(number: u8) {
+fn refused(rt: &impl Print, number: u8) -> io::Result<()> {
     if number != 0 {
-        vectors::put_refusal(number);
+        vectors::put_refusal(rt, number)?;
     }
+    Ok(())
 }
 
-fn groups(g: Groups) {
+fn groups(rt: &impl Print, g: Groups) -> io::Result<()> {
     let numbers = [
         g.bytes,
         g.fill,
@@ -47,23 +50,28 @@ fn groups(g: Groups) {
         g.open,
     ];
     fields(
+        rt,
         b"bytes # fill # stray # voted # split # weak1 # weak2 # weak3 # open #",
         &numbers,
-    );
+    )
 }
 
-fn framing(f: Framing) {
+fn framing(rt: &impl Print, f: Framing) -> io::Result<()> {
     let numbers = [f.hunted, f.good, f.damaged, f.unsynced, f.placed];
-    fields(b" hunted # good # damaged # unsynced # placed #", &numbers);
+    fields(
+        rt,
+        b" hunted # good # damaged # unsynced # placed #",
+        &numbers,
+    )
 }
 
-fn runs(r: Runs) {
+fn runs(rt: &impl Print, r: Runs) -> io::Result<()> {
     let numbers = [r.majors, r.broken, r.loose, r.building];
-    fields(b" majors # broken # loose # building #\n", &numbers);
+    fields(rt, b" majors # broken # loose # building #\n", &numbers)
 }
 
 // What the tally holds beside the counts.
-fn kept(t: Tally) {
+fn kept(rt: &impl Print, t: Tally) -> io::Result<()> {
     let frame = t.frame;
     let numbers = [
         bit(t.framing.hunting),
@@ -73,11 +81,15 @@ fn kept(t: Tally) {
         wide(t.groups.second),
         checksum(&frame),
     ];
-    fields(b"hunting # match # hole # copies # # frame #\n", &numbers);
+    fields(
+        rt,
+        b"hunting # match # hole # copies # # frame #\n",
+        &numbers,
+    )
 }
 
 // The lock, and the area.
-fn locked(handed: u64, awaits: bool, area: u64) {
+fn locked(rt: &impl Print, handed: u64, awaits: bool, area: u64) -> io::Result<()> {
     let numbers = [handed, bit(awaits), area];
-    fields(b"lead-ins # awaits # area #\n", &numbers);
+    fields(rt, b"lead-ins # awaits # area #\n", &numbers)
 }

@@ -2,6 +2,8 @@
 // the answers that it worked out by other means.
 #![tactic(auto)]
 
+use std::io;
+use std::io::Input;
 use subcom::{ColumnKind, Description, EightFlags, Form, Item, ItemCount, Reading};
 use vectors::{field, filled, number, put, put_bytes, put_number, put_refusal};
 
@@ -12,7 +14,7 @@ const AREA: usize = 16_384;
 
 const COLUMN: usize = 128;
 
-fn main() {
+fn main(rt: HostRuntime) -> io::Result<()> {
     // Both have more room than an area and a column, so that longer ones can be lent.
     let mut area_space = [0u8; 16_640];
     let mut column_space = [0u8; 160];
@@ -20,25 +22,31 @@ fn main() {
     let column: &mut [u8] = &mut column_space;
     let mut left = vectors::MOST_RECORDS;
     while left > 0 {
-        if !turn(&mut *area, &mut *column) {
-            return;
+        if !turn(&rt, &mut *area, &mut *column)? {
+            return Ok(());
         }
         left -= 1;
     }
+    Ok(())
 }
 
 // Reads a record and runs it; false at the end of the input.
-fn turn(area: &mut [u8], column: &mut [u8]) -> bool {
+fn turn(rt: &(impl Input + Print), area: &mut [u8], column: &mut [u8]) -> io::Result<bool> {
     let mut record = [0u8; 40];
-    if filled(&mut record) {
-        return run(&record, area, column);
+    if filled(rt, &mut record) {
+        return run(rt, &record, area, column);
     }
-    false
+    Ok(false)
 }
 
-fn run(record: &[u8], area: &mut [u8], column: &mut [u8]) -> bool {
+fn run(
+    rt: &(impl Input + Print),
+    record: &[u8],
+    area: &mut [u8],
+    column: &mut [u8],
+) -> io::Result<bool> {
     if record.len() != RECORD {
-        return false;
+        return Ok(false);
     }
     let operation = record[0];
     let a = number(&record[8..16]);
@@ -46,29 +54,37 @@ fn run(record: &[u8], area: &mut [u8], column: &mut [u8]) -> bool {
     let c = number(&record[24..32]);
     let year = number(&record[32..40]);
     match operation {
-        1 => return load(area, AREA),
-        2 => return load(column, COLUMN),
-        3 => return gather(first(area, a), column, b),
+        1 => return Ok(load(rt, area, AREA)),
+        2 => return Ok(load(rt, column, COLUMN)),
+        3 => return gather(rt, first(area, a), column, b),
         _ => {
-            ask_one(operation, year, column, a, b, c);
-            return true;
+            ask_one(rt, operation, year, column, a, b, c)?;
+            return Ok(true);
         }
     }
 }
 
 // The operations that change neither buffer.
-fn ask_one(operation: u8, year: u64, column: &[u8], a: u64, b: u64, c: u64) {
+fn ask_one(
+    rt: &impl Print,
+    operation: u8,
+    year: u64,
+    column: &[u8],
+    a: u64,
+    b: u64,
+    c: u64,
+) -> io::Result<()> {
     match operation {
-        4 => kind(year, first(column, a)),
-        5 => list(year, first(column, COLUMN as u64), a),
-        _ => ask(year, first(column, c), a, b),
+        4 => kind(rt, year, first(column, a)),
+        5 => list(rt, year, first(column, COLUMN as u64), a),
+        _ => ask(rt, year, first(column, c), a, b),
     }
 }
 
 // Fills the first n bytes of a buffer from the input.
-fn load(buffer: &mut [u8], n: usize) -> bool {
+fn load(rt: &impl Input, buffer: &mut [u8], n: usize) -> bool {
     if n <= buffer.len() {
-        return filled(&mut buffer[0..n]);
+        return filled(rt, &mut buffer[0..n]);
     }
     false
 }
@@ -83,114 +99,115 @@ fn first(buffer: &[u8], n: u64) -> &[u8] {
 }
 
 // Gathers into the first n bytes of the column, and writes the answer and the whole buffer.
-fn gather(area: &[u8], column: &mut [u8], n: u64) -> bool {
+fn gather(rt: &impl Print, area: &[u8], column: &mut [u8], n: u64) -> io::Result<bool> {
     let count = n as usize;
     if count <= column.len() {
         let out = &mut column[0..count];
         let answer = subcom::gather(area, out);
-        put_number(answer as u64);
-        put(b" ");
-        put_bytes(column);
-        put(b"\n");
-        return true;
+        put_number(rt, answer as u64)?;
+        put(rt, b" ")?;
+        put_bytes(rt, column)?;
+        put(rt, b"\n")?;
+        return Ok(true);
     }
-    false
+    Ok(false)
 }
 
-fn kind(year: u64, column: &[u8]) {
+fn kind(rt: &impl Print, year: u64, column: &[u8]) -> io::Result<()> {
     match subcom::kind(year, column) {
         ColumnKind::Kind(k) => {
-            field(b"kind ", k);
-            put(b"\n");
+            field(rt, b"kind ", k)?;
+            put(rt, b"\n")
         }
-        ColumnKind::Refused(r) => put_refusal(r),
+        ColumnKind::Refused(r) => put_refusal(rt, r),
     }
 }
 
 // Writes what each item of a kind is, its bytes, and what it reads as.
-fn list(year: u64, column: &[u8], kind: u64) {
+fn list(rt: &impl Print, year: u64, column: &[u8], kind: u64) -> io::Result<()> {
     match subcom::item_count(kind) {
-        ItemCount::Items(n) => list_items(year, column, kind, n),
-        ItemCount::Refused(r) => put_refusal(r),
+        ItemCount::Items(n) => list_items(rt, year, column, kind, n),
+        ItemCount::Refused(r) => put_refusal(rt, r),
     }
 }
 
-fn list_items(year: u64, column: &[u8], kind: u64, n: u64) {
+fn list_items(rt: &impl Print, year: u64, column: &[u8], kind: u64, n: u64) -> io::Result<()> {
     let mut item = 0;
     while item < n {
-        list_item(year, column, kind, item);
+        list_item(rt, year, column, kind, item)?;
         item += 1;
     }
+    Ok(())
 }
 
-fn list_item(year: u64, column: &[u8], kind: u64, item: u64) {
-    put_number(kind);
-    field(b" ", item);
+fn list_item(rt: &impl Print, year: u64, column: &[u8], kind: u64, item: u64) -> io::Result<()> {
+    put_number(rt, kind)?;
+    field(rt, b" ", item)?;
     match subcom::describe(kind, item) {
-        Description::Found(i) => put_item(i),
-        Description::Refused(r) => put_number(r as u64),
+        Description::Found(i) => put_item(rt, i)?,
+        Description::Refused(r) => put_number(rt, r as u64)?,
     }
-    put(b" [");
-    put_bytes(subcom::part(column, kind, item));
-    put(b"] ");
-    put_reading(subcom::read(year, column, kind, item));
+    put(rt, b" [")?;
+    put_bytes(rt, subcom::part(column, kind, item))?;
+    put(rt, b"] ")?;
+    put_reading(rt, subcom::read(year, column, kind, item))
 }
 
 // Writes the answers of all entries on one item.
-fn ask(year: u64, column: &[u8], kind: u64, item: u64) {
-    put_number(subcom::part_refusal(column, kind, item) as u64);
-    put(b" [");
-    put_bytes(subcom::part(column, kind, item));
-    put(b"] ");
-    put_reading(subcom::read(year, column, kind, item));
+fn ask(rt: &impl Print, year: u64, column: &[u8], kind: u64, item: u64) -> io::Result<()> {
+    put_number(rt, subcom::part_refusal(column, kind, item) as u64)?;
+    put(rt, b" [")?;
+    put_bytes(rt, subcom::part(column, kind, item))?;
+    put(rt, b"] ")?;
+    put_reading(rt, subcom::read(year, column, kind, item))
 }
 
-fn put_item(i: Item) {
-    put(b" ");
+fn put_item(rt: &impl Print, i: Item) -> io::Result<()> {
+    put(rt, b" ")?;
     let form = i.form;
-    put_form(form);
-    field(b" ", i.first as u64);
-    field(b" ", i.length as u64);
+    put_form(rt, form)?;
+    field(rt, b" ", i.first as u64)?;
+    field(rt, b" ", i.length as u64)
 }
 
-fn put_form(form: Form) {
+fn put_form(rt: &impl Print, form: Form) -> io::Result<()> {
     match form {
-        Form::Count => put(b"count"),
-        Form::TwelveBit => put(b"twelve"),
-        Form::Flags => put(b"flags"),
-        Form::Number => put(b"number"),
-        Form::Time => put(b"time"),
-        Form::Fill => put(b"fill"),
+        Form::Count => put(rt, b"count"),
+        Form::TwelveBit => put(rt, b"twelve"),
+        Form::Flags => put(rt, b"flags"),
+        Form::Number => put(rt, b"number"),
+        Form::Time => put(rt, b"time"),
+        Form::Fill => put(rt, b"fill"),
     }
 }
 
-fn put_reading(r: Reading) {
+fn put_reading(rt: &impl Print, r: Reading) -> io::Result<()> {
     match r {
         Reading::Count(n) => {
-            field(b"count ", n);
-            put(b"\n");
+            field(rt, b"count ", n)?;
+            put(rt, b"\n")
         }
-        Reading::Flags(f) => put_flags(f),
-        Reading::Number(x) => vectors::put_double(x),
-        Reading::Time(t) => vectors::put_time(t.spacecraft, t.instant),
-        Reading::Fill => put(b"fill\n"),
-        Reading::Refused(r) => put_refusal(r),
+        Reading::Flags(f) => put_flags(rt, f),
+        Reading::Number(x) => vectors::put_double(rt, x),
+        Reading::Time(t) => vectors::put_time(rt, t.spacecraft, t.instant),
+        Reading::Fill => put(rt, b"fill\n"),
+        Reading::Refused(r) => put_refusal(rt, r),
     }
 }
 
-fn put_flags(f: EightFlags) {
-    put(b"flags ");
-    put_flag(f.bit0);
-    put_flag(f.bit1);
-    put_flag(f.bit2);
-    put_flag(f.bit3);
-    put_flag(f.bit4);
-    put_flag(f.bit5);
-    put_flag(f.bit6);
-    put_flag(f.bit7);
-    put(b"\n");
+fn put_flags(rt: &impl Print, f: EightFlags) -> io::Result<()> {
+    put(rt, b"flags ")?;
+    put_flag(rt, f.bit0)?;
+    put_flag(rt, f.bit1)?;
+    put_flag(rt, f.bit2)?;
+    put_flag(rt, f.bit3)?;
+    put_flag(rt, f.bit4)?;
+    put_flag(rt, f.bit5)?;
+    put_flag(rt, f.bit6)?;
+    put_flag(rt, f.bit7)?;
+    put(rt, b"\n")
 }
 
-fn put_flag(flag: bool) {
-    put_number(vectors::bit(flag));
+fn put_flag(rt: &impl Print, flag: bool) -> io::Result<()> {
+    put_number(rt, vectors::bit(flag))
 }

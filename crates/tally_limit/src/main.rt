@@ -14,6 +14,8 @@ mod tally;
 ghost use Rattle.std.specs.Prelude.{◌≤◌};
 
 use labelling::Tally;
+use std::io;
+use std::io::Input;
 use vectors::{filled, filled_numbers};
 
 const MOST_LINE: usize = 160;
@@ -27,40 +29,47 @@ struct Turned {
     tally: Tally,
 }
 
-fn main() {
+fn main(rt: HostRuntime) -> io::Result<()> {
     let mut kept = call::begun();
     let mut left = vectors::MOST_RECORDS;
     while left > 0 {
-        let turned = turn(kept);
+        let turned = turn(&rt, kept)?;
         if !turned.more {
-            return;
+            return Ok(());
         }
         kept = turned.tally;
         left -= 1;
     }
+    Ok(())
 }
 
 // Reads a record and makes its call; no more at the end of the input.
-fn turn(kept: Tally) -> Turned {
+fn turn(rt: &(impl Input + Print), kept: Tally) -> io::Result<Turned> {
     let mut numbers = [0u64; 39];
     let mut frame = [0u8; 128];
     let mut texts = [0u8; 192];
-    if !(filled_numbers(&mut numbers) & filled(&mut frame) & filled(&mut texts)) {
-        return Turned {
+    if !(filled_numbers(rt, &mut numbers) & filled(rt, &mut frame) & filled(rt, &mut texts)) {
+        return Ok(Turned {
             more: false,
             tally: kept,
-        };
+        });
     }
-    made(numbers, frame, &texts, kept)
+    made(rt, numbers, frame, &texts, kept)
 }
 
-fn made(numbers: [u64; 39], frame: [u8; 128], texts: &[u8], kept: Tally) -> Turned {
+fn made(
+    rt: &impl Print,
+    numbers: [u64; 39],
+    frame: [u8; 128],
+    texts: &[u8],
+    kept: Tally,
+) -> io::Result<Turned> {
     let t = chosen(numbers[2] == 1, tally::of(numbers, frame), kept);
-    let back = run(numbers, texts, t);
-    Turned {
+    let back = run(rt, numbers, texts, t)?;
+    Ok(Turned {
         more: true,
         tally: chosen(numbers[1] == 1, back, kept),
-    }
+    })
 }
 
 fn chosen(first: bool, a: Tally, b: Tally) -> Tally {
@@ -71,9 +80,9 @@ fn chosen(first: bool, a: Tally, b: Tally) -> Tally {
 }
 
 // Makes the call and writes its line; the answer is the tally that comes back.
-fn run(numbers: [u64; 39], texts: &[u8], t: Tally) -> Tally {
+fn run(rt: &impl Print, numbers: [u64; 39], texts: &[u8], t: Tally) -> io::Result<Tally> {
     if texts.len() < 192 {
-        return t;
+        return Ok(t);
     }
     let line_end = 16 + shorter(numbers[3] as usize, MOST_LINE);
     let piece_end = 176 + shorter(numbers[4] as usize, MOST_PIECE);
@@ -81,8 +90,8 @@ fn run(numbers: [u64; 39], texts: &[u8], t: Tally) -> Tally {
     let line = &texts[16..line_end];
     let piece = &texts[176..piece_end];
     let answer = call::answered(numbers[0], t, numbers[5], piece);
-    show::line(line, picks, t, answer);
-    answer.tally
+    show::line(rt, line, picks, t, answer)?;
+    Ok(answer.tally)
 }
 
 fn shorter(n: usize, most: usize) -> usize

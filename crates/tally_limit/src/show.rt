@@ -6,9 +6,16 @@ use crate::call::Answer;
 use crate::tally::numbers;
 use base::wide;
 use labelling::Tally;
+use std::io;
 use vectors::{bit, fields};
 
-pub(crate) fn line(form: &[u8], picks: &[u8], t: Tally, a: Answer)
+pub(crate) fn line(
+    rt: &impl Print,
+    form: &[u8],
+    picks: &[u8],
+    t: Tally,
+    a: Answer,
+) -> io::Result<()>
     requires { length picks.now ≡ 16 }
 {
     let u = a.tally;
@@ -23,7 +30,7 @@ pub(crate) fn line(form: &[u8], picks: &[u8], t: Tally, a: Answer)
     ];
     let mut shown = [0u64; 16];
     pick(picks, &called, &after, &mut shown);
-    fields(form, &shown);
+    fields(rt, form, &shown)
 }
 
 // The tally with this operator on duty.

@@ -6,6 +6,8 @@ mod reel;
 mod report;
 mod single;
 
+use std::io;
+use std::io::Input;
 use vectors::number;
 
 const LEAD_IN: u8 = 0;
@@ -23,21 +25,22 @@ struct Header {
     spacing: u64,
 }
 
-fn main() {
+fn main(rt: HostRuntime) -> io::Result<()> {
     let mut left = vectors::MOST_RECORDS;
     while left > 0 {
-        if !turn() {
-            return;
+        if !turn(&rt)? {
+            return Ok(());
         }
         left -= 1;
     }
+    Ok(())
 }
 
 // Reads a record and runs it; false at the end of the input.
-fn turn() -> bool {
+fn turn(rt: &(impl Input + Print)) -> io::Result<bool> {
     let mut bytes = [0u8; 12];
-    if !vectors::filled(&mut bytes) {
-        return false;
+    if !vectors::filled(rt, &mut bytes) {
+        return Ok(false);
     }
     let h = Header {
         kind: bytes[0],
@@ -45,15 +48,15 @@ fn turn() -> bool {
         room: number(&bytes[2..4]) as usize,
         spacing: number(&bytes[4..12]),
     };
-    run(h)
+    run(rt, h)
 }
 
-fn run(h: Header) -> bool {
+fn run(rt: &(impl Input + Print), h: Header) -> io::Result<bool> {
     if h.kind == LEAD_IN {
-        return single::lead_in(h.spacing, h.room);
+        return single::lead_in(rt, h.spacing, h.room);
     }
     if h.kind == MINOR_FRAME {
-        return single::minor_frame(h.spacing, h.count, h.room);
+        return single::minor_frame(rt, h.spacing, h.count, h.room);
     }
-    reel::written_and_read(h.spacing, h.count)
+    reel::written_and_read(rt, h.spacing, h.count)
 }

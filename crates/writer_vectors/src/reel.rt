@@ -5,6 +5,8 @@ use crate::report;
 use base::format::{MAJOR_FRAME, MINOR_FRAME};
 use labelling::Tally;
 use reader::Taken;
+use std::io;
+use std::io::Input;
 use vectors::{filled, sum};
 
 const MOST_MAJORS: usize = 4;
@@ -20,39 +22,43 @@ pub(crate) struct Reading {
 }
 
 // A reel of so many major frames, whose spacings and minor frames follow in the input; false where they do not.
-pub(crate) fn written_and_read(lead_spacing: u64, majors: usize) -> bool {
+pub(crate) fn written_and_read(
+    rt: &(impl Input + Print),
+    lead_spacing: u64,
+    majors: usize,
+) -> io::Result<bool> {
     if MOST_MAJORS < majors {
-        return false;
+        return Ok(false);
     }
     let mut spacing_space = [0u8; 512];
     let spacings = &mut spacing_space[0..128 * majors];
-    if !filled(&mut *spacings) {
-        return false;
+    if !filled(rt, &mut *spacings) {
+        return Ok(false);
     }
-    with_frames(lead_spacing, spacings)
+    with_frames(rt, lead_spacing, spacings)
 }
 
 // The minor frames that follow, one for each spacing; false where they do not.
-fn with_frames(lead_spacing: u64, spacings: &[u8]) -> bool
+fn with_frames(rt: &(impl Input + Print), lead_spacing: u64, spacings: &[u8]) -> io::Result<bool>
     requires { length spacings.now ≤ 512 }
 {
     let mut frame_space = [0u8; 65536];
     let frames = &mut frame_space[0..MINOR_FRAME * spacings.len()];
-    if !filled(&mut *frames) {
-        return false;
+    if !filled(rt, &mut *frames) {
+        return Ok(false);
     }
-    run(lead_spacing, spacings, frames);
-    true
+    run(rt, lead_spacing, spacings, frames)?;
+    Ok(true)
 }
 
-fn run(lead_spacing: u64, spacings: &[u8], frames: &[u8])
+fn run(rt: &impl Print, lead_spacing: u64, spacings: &[u8], frames: &[u8]) -> io::Result<()>
     requires { (length frames.now ≡ 128 * length spacings.now) × (length spacings.now ≤ 512) }
 {
     let mut space = blank();
     let length = write_reel(lead_spacing, spacings, frames, &mut space);
     let reel = &space[0..length];
-    report::written(frames.len() / MAJOR_FRAME, reel);
-    every_cut(reel, frames);
+    report::written(rt, frames.len() / MAJOR_FRAME, reel)?;
+    every_cut(rt, reel, frames)
 }
 
 // Room for a reel. Callers know only its length: a check that counted so many bytes one by one would run out of stack.
@@ -119,26 +125,26 @@ fn write_frame(spacing: u8, frame: &[u8], room: &mut [u8]) -> usize
 }
 
 // Reads the reel in pieces of each of these lengths, and whole.
-fn every_cut(reel: &[u8], frames: &[u8]) {
-    one_cut(reel, frames, 1);
-    one_cut(reel, frames, 3);
-    one_cut(reel, frames, 7);
-    one_cut(reel, frames, 61);
-    one_cut(reel, frames, 127);
-    one_cut(reel, frames, 509);
-    one_cut(reel, frames, 4093);
-    one_cut(reel, frames, 65521);
-    one_cut(reel, frames, reel.len());
+fn every_cut(rt: &impl Print, reel: &[u8], frames: &[u8]) -> io::Result<()> {
+    one_cut(rt, reel, frames, 1)?;
+    one_cut(rt, reel, frames, 3)?;
+    one_cut(rt, reel, frames, 7)?;
+    one_cut(rt, reel, frames, 61)?;
+    one_cut(rt, reel, frames, 127)?;
+    one_cut(rt, reel, frames, 509)?;
+    one_cut(rt, reel, frames, 4093)?;
+    one_cut(rt, reel, frames, 65521)?;
+    one_cut(rt, reel, frames, reel.len())
 }
 
-fn one_cut(reel: &[u8], frames: &[u8], piece: usize) {
+fn one_cut(rt: &impl Print, reel: &[u8], frames: &[u8], piece: usize) -> io::Result<()> {
     if piece == 0 {
-        return;
+        return Ok(());
     }
     let mut space = [0xA5u8; 16384];
     let area: &mut [u8] = &mut space;
     let r = read_reel(reel, frames, piece, area);
-    report::reading(piece, r);
+    report::reading(rt, piece, r)
 }
 
 fn fresh() -> Reading {

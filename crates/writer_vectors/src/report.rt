@@ -3,73 +3,79 @@ ghost use Rattle.std.specs.Prelude.{◌≤◌, length};
 
 use crate::reel::Reading;
 use labelling::{Framing, Groups, Runs, Tally};
+use std::io;
 use vectors::{checksum, field, fields, put};
 
 // The longest output that is shown byte by byte.
 const SHORT: usize = 28;
 
 // The answer of a call, and how many bytes it changed.
-pub(crate) fn answered(answer: u8, changed: u64) {
+pub(crate) fn answered(rt: &impl Print, answer: u8, changed: u64) -> io::Result<()> {
     let numbers = [answer as u64, changed];
-    fields(b": answer # changed #", &numbers);
+    fields(rt, b": answer # changed #", &numbers)
 }
 
 // What a minor frame has at its sync and number places: what decides whether it can be written.
-pub(crate) fn minor_frame(spacing: u64, frame: &[u8], room: usize) {
+pub(crate) fn minor_frame(
+    rt: &impl Print,
+    spacing: u64,
+    frame: &[u8],
+    room: usize,
+) -> io::Result<()> {
     let numbers = [spacing, frame.len() as u64];
-    fields(b"minor frame spacing # length # sync ", &numbers);
-    byte_at(frame, 0);
-    byte_at(frame, 1);
-    byte_at(frame, 2);
-    put(b" number ");
-    byte_at(frame, 65);
-    field(b" output ", room as u64);
+    fields(rt, b"minor frame spacing # length # sync ", &numbers)?;
+    byte_at(rt, frame, 0)?;
+    byte_at(rt, frame, 1)?;
+    byte_at(rt, frame, 2)?;
+    put(rt, b" number ")?;
+    byte_at(rt, frame, 65)?;
+    field(rt, b" output ", room as u64)
 }
 
 // A byte that is not there is shown as two dashes.
-fn byte_at(bytes: &[u8], at: usize) {
+fn byte_at(rt: &impl Print, bytes: &[u8], at: usize) -> io::Result<()> {
     if at < bytes.len() {
-        vectors::put_byte(bytes[at]);
-        return;
+        vectors::put_byte(rt, bytes[at])?;
+        return Ok(());
     }
-    put(b"--");
+    put(rt, b"--")
 }
 
 // Ends the line of a call with the checksum of its output, the first bytes of the space.
-pub(crate) fn output(space: &[u8], room: usize)
+pub(crate) fn output(rt: &impl Print, space: &[u8], room: usize) -> io::Result<()>
     requires { room ≤ length space.now }
 {
-    field(b" checksum ", checksum(&space[0..room]));
-    put(b"\n");
+    field(rt, b" checksum ", checksum(&space[0..room]))?;
+    put(rt, b"\n")
 }
 
 // Ends the line with every byte too, where there are few.
-pub(crate) fn short_output(space: &[u8], room: usize)
+pub(crate) fn short_output(rt: &impl Print, space: &[u8], room: usize) -> io::Result<()>
     requires { room ≤ length space.now }
 {
     if room <= SHORT {
-        put(b" bytes ");
-        vectors::put_bytes(&space[0..room]);
+        put(rt, b" bytes ")?;
+        vectors::put_bytes(rt, &space[0..room])?;
     }
-    output(space, room);
+    output(rt, space, room)
 }
 
-pub(crate) fn written(majors: usize, reel: &[u8]) {
+pub(crate) fn written(rt: &impl Print, majors: usize, reel: &[u8]) -> io::Result<()> {
     let numbers = [majors as u64, reel.len() as u64, checksum(reel)];
-    fields(b"reel of major frames # bytes # checksum #\n", &numbers);
+    fields(rt, b"reel of major frames # bytes # checksum #\n", &numbers)
 }
 
-pub(crate) fn reading(piece: usize, r: Reading) {
+pub(crate) fn reading(rt: &impl Print, piece: usize, r: Reading) -> io::Result<()> {
     let numbers = [piece as u64, r.paid as u64, r.compared, r.differ];
-    fields(b"pieces of #: paid # compared # differ #", &numbers);
+    fields(rt, b"pieces of #: paid # compared # differ #", &numbers)?;
     let t = r.tally;
-    faults(t.groups, t.framing, t.runs);
-    unfinished(t);
-    counts(t);
+    faults(rt, t.groups, t.framing, t.runs)?;
+    unfinished(rt, t)?;
+    counts(rt, t)
 }
 
 // The counts that are 0 for a written reel.
-fn faults(g: Groups, f: Framing, r: Runs) {
+fn faults(rt: &impl Print, g: Groups, f: Framing, r: Runs) -> io::Result<()> {
     let numbers = [
         g.stray,
         g.split,
@@ -82,22 +88,23 @@ fn faults(g: Groups, f: Framing, r: Runs) {
         r.loose,
     ];
     fields(
+        rt,
         b" stray # split # weak1 # weak2 # weak3 # damaged # unsynced # broken # loose #",
         &numbers,
-    );
+    )
 }
 
-fn unfinished(t: Tally) {
+fn unfinished(rt: &impl Print, t: Tally) -> io::Result<()> {
     let numbers = [
         t.framing.hunted,
         t.runs.building,
         t.framing.placed,
         t.groups.open,
     ];
-    fields(b" hunted # building # placed # open #", &numbers);
+    fields(rt, b" hunted # building # placed # open #", &numbers)
 }
 
-fn counts(t: Tally) {
+fn counts(rt: &impl Print, t: Tally) -> io::Result<()> {
     let numbers = [
         t.framing.good,
         t.runs.majors,
@@ -105,5 +112,5 @@ fn counts(t: Tally) {
         t.groups.fill,
         t.groups.voted,
     ];
-    fields(b" good # majors # bytes # fill # voted #\n", &numbers);
+    fields(rt, b" good # majors # bytes # fill # voted #\n", &numbers)
 }

@@ -2,6 +2,8 @@
 ghost use Rattle.std.specs.Prelude.{◌≤◌};
 
 use crate::report;
+use std::io;
+use std::io::Input;
 use vectors::{fields, others};
 
 // More than any output that a record asks for, 128 × 66 bytes at most, so that a write past its end would show.
@@ -11,50 +13,55 @@ const SPACE: usize = 8576;
 const BEFORE: u8 = 0xA5;
 
 // False where the record asks for more than there is space for.
-pub(crate) fn lead_in(spacing: u64, room: usize) -> bool {
+pub(crate) fn lead_in(rt: &impl Print, spacing: u64, room: usize) -> io::Result<bool> {
     if SPACE < room {
-        return false;
+        return Ok(false);
     }
     let numbers = [spacing, room as u64];
-    fields(b"lead-in spacing # output #", &numbers);
-    one_lead_in(spacing, room);
-    true
+    fields(rt, b"lead-in spacing # output #", &numbers)?;
+    one_lead_in(rt, spacing, room)?;
+    Ok(true)
 }
 
-fn one_lead_in(spacing: u64, room: usize)
+fn one_lead_in(rt: &impl Print, spacing: u64, room: usize) -> io::Result<()>
     requires { room ≤ 8576 }
 {
     let mut array = [0xA5u8; 8576];
     let space: &mut [u8] = &mut array;
     let answer = writer::write_lead_in(spacing, &mut space[0..room]);
-    report::answered(answer, others(space, BEFORE));
-    report::short_output(space, room);
+    report::answered(rt, answer, others(space, BEFORE))?;
+    report::short_output(rt, space, room)
 }
 
 // A minor frame that follows its header in the input; false where it does not.
-pub(crate) fn minor_frame(spacing: u64, length: usize, room: usize) -> bool {
+pub(crate) fn minor_frame(
+    rt: &(impl Input + Print),
+    spacing: u64,
+    length: usize,
+    room: usize,
+) -> io::Result<bool> {
     if SPACE < room {
-        return false;
+        return Ok(false);
     }
     if 256 < length {
-        return false;
+        return Ok(false);
     }
     let mut source = [0u8; 256];
     let frame = &mut source[0..length];
-    if !vectors::filled(&mut *frame) {
-        return false;
+    if !vectors::filled(rt, &mut *frame) {
+        return Ok(false);
     }
-    report::minor_frame(spacing, frame, room);
-    one_minor_frame(spacing, frame, room);
-    true
+    report::minor_frame(rt, spacing, frame, room)?;
+    one_minor_frame(rt, spacing, frame, room)?;
+    Ok(true)
 }
 
-fn one_minor_frame(spacing: u64, frame: &[u8], room: usize)
+fn one_minor_frame(rt: &impl Print, spacing: u64, frame: &[u8], room: usize) -> io::Result<()>
     requires { room ≤ 8576 }
 {
     let mut array = [0xA5u8; 8576];
     let space: &mut [u8] = &mut array;
     let answer = writer::write_minor_frame(spacing, frame, &mut space[0..room]);
-    report::answered(answer, others(space, BEFORE));
-    report::output(space, room);
+    report::answered(rt, answer, others(space, BEFORE))?;
+    report::output(rt, space, room)
 }
