@@ -3,7 +3,6 @@ use mathlib.Core.Path.{◌≡◌, sym, ◌∙◌}
 use mathlib.Core.Bool.{true}
 use Prim.Native.Nat.{◌≤◌, ◌^◌}
 use native.Mathlib.Omega.{arith}
-use borrow.Author.Tests.{not-true, not-false}
 use Rattle.labelling.proofs.Ordered.{bytes_within}
 use Rattle.relocking.specs.Relock.{feeder_in_order}
 use Rattle.relocking.proofs.Relocking.{in_order, not_in_order, wrong-area, too_long, accepted-by}
@@ -12,12 +11,12 @@ use Rattle.relocking.proofs.refusal.Goals.{Else-not-in_order}
 
 pub returns-then-not-in_order : goal.returns-then-not-in_order
 returns-then-not-in_order c =
-    sym (not_in_order _ _ _ (sym c.in_order.ensures ∙ not-true c.in_order.result c.if-not-in_order.true))
+    sym (not_in_order _ _ _ (sym c.in_order.ensures ∙ c.if-not-in_order.true))
 
 -- past the first test
 module _ (c : Else-not-in_order) where
   order : feeder_in_order c.args.f ≡ true
-  order = sym c.in_order.ensures ∙ not-false c.in_order.result c.if-not-in_order.false
+  order = sym c.in_order.ensures ∙ c.if-not-in_order.false
 
   within : c.args.f.tally.groups.bytes ≤ 2 ^ 40
   within = bytes_within c.args.f.tally (in_order c.args.f order).in_tally

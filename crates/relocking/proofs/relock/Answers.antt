@@ -4,7 +4,6 @@ use mathlib.Core.Bool.{true}
 use native.Mathlib.Omega.{arith}
 use lib.ListN.{length, take}
 use lib.Seq.{length-take-le}
-use borrow.Author.Tests.{not-true, not-false}
 use Rattle.relocking.specs.Relock.{relock_refusal}
 use Rattle.relocking.proofs.Relocking.{step_refused, accepts_part}
 use Rattle.relocking.proofs.Moves.{reads_all, reads_before}
@@ -26,7 +25,7 @@ read_on-requires c = accepted (goal.at.read_on-requires c).Else-number-ne0
 
 pub returns-then-not-f : goal.returns-then-not-f
 returns-then-not-f c =
-    reads_all _ _ _ _ (accepted (goal.at.returns-then-not-f c).Else-number-ne0) (not-true _ c.if-not-f.true) c.read_on.result _ c.read_on.ensures
+    reads_all _ _ _ _ (accepted (goal.at.returns-then-not-f c).Else-number-ne0) c.if-not-f.true c.read_on.result _ c.read_on.ensures
 
 -- after the search for a SYNC, while a lock awaits its word
 module _ (v : After-before_group-k) where
