@@ -3,13 +3,13 @@ use lib.ListN.{length}
 use Rattle.book_compare_vectors.proofs.put_sum.Goals as goal
 
 pub mix-sum-requires : goal.mix-sum-requires
-mix-sum-requires c = tt
+mix-sum-requires g c = tt
 
 pub field-requires : goal.field-requires
-field-requires c = tt
+field-requires g c = tt
 
 pub put-requires : goal.put-requires
-put-requires c = tt
+put-requires g c = tt
 
 pub returns : goal.returns
-returns c = tt
+returns g c = tt

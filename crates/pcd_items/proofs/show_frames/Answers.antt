@@ -5,31 +5,31 @@ use lib.ListN.{length-replicate}
 use Rattle.pcd_items.proofs.show_frames.Goals as goal
 
 pub slice_bounds-area-end : goal.slice_bounds-area-end
-slice_bounds-area-end c = sym (length-replicate {A = ℕ} 16384 0)
+slice_bounds-area-end g c = sym (length-replicate {A = ℕ} 16384 0)
 
 pub large_buffer-text_space-requires : goal.large_buffer-text_space-requires
-large_buffer-text_space-requires c = tt
+large_buffer-text_space-requires g c = tt
 
 pub loop-frame-init : goal.loop-frame-init
-loop-frame-init c = tt
+loop-frame-init g c = tt
 
 pub turn-requires : goal.turn-requires
-turn-requires c = tt
+turn-requires g c = tt
 
 pub returns-in-Ended : goal.returns-in-Ended
-returns-in-Ended c = tt
+returns-in-Ended g c = tt
 
 pub returns-in-Failed : goal.returns-in-Failed
-returns-in-Failed c = tt
+returns-in-Failed g c = tt
 
 pub overflow_add-frame : goal.overflow_add-frame
-overflow_add-frame c = record { fits = omega arith }
+overflow_add-frame g c = record { fits = omega arith }
 
 pub loop-frame-smaller : goal.loop-frame-smaller
-loop-frame-smaller c = omega arith
+loop-frame-smaller g c = omega arith
 
 pub loop-frame-preserved : goal.loop-frame-preserved
-loop-frame-preserved c = tt
+loop-frame-preserved g c = tt
 
 pub returns : goal.returns
-returns c = tt
+returns g c = tt

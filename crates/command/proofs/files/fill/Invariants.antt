@@ -7,7 +7,7 @@ use native.Mathlib.Omega.{arith}
 use Rattle.command.proofs.files.fill.Given as goal
 
 abbrev pub invariant-loop-end : goal.invariant-loop-end
-invariant-loop-end l = Kept l.initial.room l.from l.room l.end
+invariant-loop-end g l = Kept l.initial.room l.from l.room l.end
 
 abbrev pub decreases-loop-end : goal.decreases-loop-end
-decreases-loop-end l = length l.room - l.end
+decreases-loop-end g l = length l.room - l.end

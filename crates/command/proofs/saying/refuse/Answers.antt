@@ -5,10 +5,10 @@ use lib.ListN.{length-replicate}
 use Rattle.command.proofs.saying.refuse.Goals as goal
 
 pub slice_bounds-refuse_in-end : goal.slice_bounds-refuse_in-end
-slice_bounds-refuse_in-end c = sym (length-replicate {A = ℕ} 256 0)
+slice_bounds-refuse_in-end g c = sym (length-replicate {A = ℕ} 256 0)
 
 pub refuse_in-requires : goal.refuse_in-requires
-refuse_in-requires c = tt
+refuse_in-requires g c = tt
 
 pub returns : goal.returns
-returns c = tt
+returns g c = tt

@@ -6,7 +6,7 @@ use lib.ListN.{length, length-set}
 use Rattle.vectors.proofs.input.filled_numbers.Given as goal
 
 abbrev pub invariant-loop-i : goal.invariant-loop-i
-invariant-loop-i l = length l.list ≡ length l.initial.list
+invariant-loop-i g l = length l.list ≡ length l.initial.list
 
 abbrev pub decreases-loop-i : goal.decreases-loop-i
-decreases-loop-i l = length l.list - l.i
+decreases-loop-i g l = length l.list - l.i

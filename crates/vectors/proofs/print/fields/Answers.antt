@@ -4,22 +4,22 @@ use lib.ListN.{length}
 use Rattle.vectors.proofs.print.fields.Goals as goal
 
 pub loop-i-init : goal.loop-i-init
-loop-i-init c = omega arith
+loop-i-init g c = omega arith
 
 pub bounds-form-i : goal.bounds-form-i
-bounds-form-i c = omega arith
+bounds-form-i g c = omega arith
 
 pub put_next-written-requires : goal.put_next-written-requires
-put_next-written-requires c = tt
+put_next-written-requires g c = tt
 
 pub overflow_add-i : goal.overflow_add-i
-overflow_add-i c = omega arith
+overflow_add-i g c = omega arith
 
 pub loop-i-smaller : goal.loop-i-smaller
-loop-i-smaller c = omega arith
+loop-i-smaller g c = omega arith
 
 pub loop-i-preserved : goal.loop-i-preserved
-loop-i-preserved c = omega arith
+loop-i-preserved g c = omega arith
 
 pub returns : goal.returns
-returns c = tt
+returns g c = tt
