@@ -12,9 +12,6 @@ loop-i-init c = (omega arith, refl)
 pub bounds-text-i : goal.bounds-text-i
 bounds-text-i c = omega arith
 
-pub is_special-requires : goal.is_special-requires
-is_special-requires c = tt
-
 pub returns-then-is_special : goal.returns-then-is_special
 returns-then-is_special c =
     let here = special_ends _ _ c.loop-i-test.true (sym c.is_special.ensures ∙ c.if-is_special.true) in

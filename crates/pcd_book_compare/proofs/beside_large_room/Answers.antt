@@ -6,9 +6,3 @@ use Rattle.pcd_book_compare.proofs.beside_large_room.Goals as goal
 
 pub slice_bounds-second-end : goal.slice_bounds-second-end
 slice_bounds-second-end g c = sym (length-replicate {A = ℕ} 16714745 0)
-
-pub compare-requires : goal.compare-requires
-compare-requires g c = tt
-
-pub returns : goal.returns
-returns g c = tt

@@ -6,9 +6,3 @@ use Rattle.pcd_book_compare.proofs.in_large_rooms.Goals as goal
 
 pub slice_bounds-first-end : goal.slice_bounds-first-end
 slice_bounds-first-end g c = sym (length-replicate {A = ℕ} 16714745 0)
-
-pub read_first_large-requires : goal.read_first_large-requires
-read_first_large-requires g c = tt
-
-pub returns : goal.returns
-returns g c = tt

@@ -14,9 +14,6 @@ module _ (probed : After-probe-r) where
 pub loop-at-init : goal.loop-at-init
 loop-at-init g c = c.probe-r.auto.1.0 ∙ c.requires
 
-pub step-s-requires : goal.step-s-requires
-step-s-requires g c = tt
-
 -- the area after a step, and after its report
 module _ (w : After-step-s) where
   step_kept : length w.step-s.last.1.1.1.1.0 ≡ 16384
@@ -32,9 +29,6 @@ stepped-r-requires g c = step_kept (goal.at.stepped-r-requires g c).After-step-s
 pub shape_of-area-then-a-ne0 : goal.shape_of-area-then-a-ne0
 shape_of-area-then-a-ne0 g c = report_kept (goal.at.shape_of-area-then-a-ne0 g c).After-stepped-r ∙ sym c.requires
 
-pub returns-then-a-ne0 : goal.returns-then-a-ne0
-returns-then-a-ne0 g c = tt
-
 pub loop-at-smaller : goal.loop-at-smaller
 loop-at-smaller g c =
     let w = after-step (goal.at.loop-at-smaller g c).After-stepped-r in
@@ -45,6 +39,3 @@ loop-at-preserved g c = report_kept (goal.at.loop-at-preserved g c).After-steppe
 
 pub shape_of-area : goal.shape_of-area
 shape_of-area g c = c.loop-at.invariant ∙ sym c.requires
-
-pub returns : goal.returns
-returns g c = tt

@@ -17,9 +17,6 @@ slice_bounds-read_some-start g c = omega arith
 pub slice_bounds-read_some-end : goal.slice_bounds-read_some-end
 slice_bounds-read_some-end g c = omega arith
 
-pub read_some-some-requires : goal.read_some-some-requires
-read_some-some-requires g c = tt
-
 pub shape_of-room-then-some-eq0 : goal.shape_of-room-then-some-eq0
 shape_of-room-then-some-eq0 g c =
     let inside = c.loop-end-test.true in

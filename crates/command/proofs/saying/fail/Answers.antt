@@ -6,9 +6,3 @@ use Rattle.command.proofs.saying.fail.Goals as goal
 
 pub slice_bounds-fail_in-end : goal.slice_bounds-fail_in-end
 slice_bounds-fail_in-end g c = sym (length-replicate {A = ℕ} 4608 0)
-
-pub fail_in-requires : goal.fail_in-requires
-fail_in-requires g c = tt
-
-pub returns : goal.returns
-returns g c = tt

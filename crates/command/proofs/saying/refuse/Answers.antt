@@ -6,9 +6,3 @@ use Rattle.command.proofs.saying.refuse.Goals as goal
 
 pub slice_bounds-refuse_in-end : goal.slice_bounds-refuse_in-end
 slice_bounds-refuse_in-end g c = sym (length-replicate {A = ℕ} 256 0)
-
-pub refuse_in-requires : goal.refuse_in-requires
-refuse_in-requires g c = tt
-
-pub returns : goal.returns
-returns g c = tt

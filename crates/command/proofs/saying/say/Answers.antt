@@ -6,9 +6,3 @@ use Rattle.command.proofs.saying.say.Goals as goal
 
 pub slice_bounds-say_in-end : goal.slice_bounds-say_in-end
 slice_bounds-say_in-end g c = sym (length-replicate {A = ℕ} 4608 0)
-
-pub say_in-requires : goal.say_in-requires
-say_in-requires g c = tt
-
-pub returns : goal.returns
-returns g c = tt

@@ -6,9 +6,6 @@ use Rattle.io.specs.Digits.{last_digits as digits}
 use Rattle.double_text.proofs.Laws.{as_many, not_grown, grown}
 use Rattle.double_text.proofs.digits.expand.Goals as goal
 
-pub spell-requires : goal.spell-requires
-spell-requires c = tt
-
 pub loop-i-init : goal.loop-i-init
 loop-i-init c =
     let spelled = c.spell in

@@ -39,9 +39,6 @@ offset_bounds-table-at-in-loop-k-2 g c = omega arith
 pub bounds-table-at-in-loop-k-2 : goal.bounds-table-at-in-loop-k-2
 bounds-table-at-in-loop-k-2 g c = omega arith
 
-pub show_line-requires : goal.show_line-requires
-show_line-requires g c = tt
-
 pub returns-then-not-show_line : goal.returns-then-not-show_line
 returns-then-not-show_line g c = λ z. absurd (omega arith)
 

@@ -9,9 +9,6 @@ loop-i-init g c = omega arith
 pub bounds-bytes-i : goal.bounds-bytes-i
 bounds-bytes-i g c = omega arith
 
-pub put_byte-requires : goal.put_byte-requires
-put_byte-requires g c = tt
-
 pub overflow_add-i : goal.overflow_add-i
 overflow_add-i g c = omega arith
 
@@ -20,6 +17,3 @@ loop-i-smaller g c = omega arith
 
 pub loop-i-preserved : goal.loop-i-preserved
 loop-i-preserved g c = omega arith
-
-pub returns : goal.returns
-returns g c = tt

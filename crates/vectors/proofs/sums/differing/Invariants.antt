@@ -7,6 +7,9 @@ use Rattle.vectors.specs.Folds.{differ}
 use Rattle.vectors.proofs.Folding.{Counted, one_at_most, counted_step, differ-step, differ-end}
 use Rattle.vectors.proofs.sums.differing.Given as goal
 
+abbrev left : List ℕ → List ℕ → ℕ → ℕ
+left a b i = differ (drop i a) (drop i b)
+
 abbrev pub invariant-loop-i : goal.invariant-loop-i
 invariant-loop-i l = Counted (left l.a l.b) (length l.a) l.n l.i
 

@@ -22,9 +22,6 @@ loop-i-init c = (omega arith, omega arith, omega arith)
 pub bounds-bytes-i : goal.bounds-bytes-i
 bounds-bytes-i c = omega arith
 
-pub bit-n-requires : goal.bit-n-requires
-bit-n-requires c = tt
-
 pub overflow_add-n : goal.overflow_add-n
 overflow_add-n c = let h : c.bit-n.result ≤ 1 = rw c.bit-n.ensures (one_at_most (now-other c)) in omega arith
 

@@ -9,6 +9,9 @@ use Rattle.vectors.specs.Folds.{is_other}
 use Rattle.vectors.proofs.Folding.{Counted, one_at_most, counted_step, count-step, count-end}
 use Rattle.vectors.proofs.sums.others.Given as goal
 
+abbrev left : ℕ → List ℕ → ℕ → ℕ
+left b bytes i = count_by (is_other b) (drop i bytes)
+
 abbrev pub invariant-loop-i : goal.invariant-loop-i
 invariant-loop-i l = Counted (left l.b l.bytes) (length l.bytes) l.n l.i
 
