@@ -1,11 +1,12 @@
 # For the scripts beside it and in examples/, at the repository's root.
 
-# archive NAME: proves the crate NAME and makes target/staticlib/libNAME.a, unless one stands there that is newer than every crate.
+# archive NAME: proves the crate NAME_c and makes target/staticlib/libNAME.a of it, unless one stands there that is newer than every file of the crates.
 archive() {
-    local archive=target/staticlib/lib$1.a
-    [ -f "$archive" ] && [ -z "$(find crates crates.txt -newer "$archive" -print -quit)" ] && return
-    mkdir -p target/bench
-    rt staticlib "$1" >target/bench/staticlib.log 2>&1 || { cat target/bench/staticlib.log >&2; return 1; }
+    local archive=target/staticlib/lib$1.a crate=crates/$1_c
+    [ -f "$archive" ] && [ -z "$(find crates crates.txt -name out -prune -o -type f -newer "$archive" -print -quit)" ] && return
+    mkdir -p target/bench target/staticlib
+    (cd "$crate" && rt lib) >target/bench/staticlib.log 2>&1 || { cat target/bench/staticlib.log >&2; return 1; }
+    cp "$crate/out/lib$1_c.a" "$archive"
 }
 
 # build NAME: links bench/NAME.rs with every archive to target/bench/NAME. Any rustc from 1.63 on will do; a warning does not stop it, since one
