@@ -1,6 +1,8 @@
 // Compares books on the records of standard input and writes lines for each answer: what tests/book_compare_vectors.py makes, with the answers
 // that it worked out by other means. Two areas, each for a book of 16 cycles, stay from record to record; what stands in them comes from the input
 // alone.
+#![tactic(auto)]
+
 ghost use Rattle.std.specs.Prelude.{◌≡◌, length};
 
 use book_compare::Compared;

@@ -1,5 +1,7 @@
 // Runs books on the records of standard input and writes lines for each answer: what tests/book_vectors.py makes, with the answers that it
 // worked out by other means. Two areas, of 32 bodies and of a book of as many, stay from record to record.
+#![tactic(auto)]
+
 ghost use Rattle.std.specs.Prelude.{◌≡◌, length};
 
 use base::format;

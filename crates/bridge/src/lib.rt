@@ -1,5 +1,7 @@
 // The reader and the writer for programs in other languages, one file for each. `bridge_c` exports
 // these entries, and include/pcd.h declares them for C.
+#![tactic(auto)]
+
 mod reading;
 mod writing;
 

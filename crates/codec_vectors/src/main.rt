@@ -1,5 +1,7 @@
 // Runs the codecs on the records of standard input and writes a line for each: what tests/codec_vectors.py makes, with the
 // answers that it worked out by other means.
+#![tactic(auto)]
+
 ghost use Rattle.std.specs.Prelude.{◌≤◌, length};
 
 use time_code::TimeCode;

@@ -3,8 +3,9 @@
 ghost use Rattle.io.specs.Counts.{IsPrefixLen};
 
 use crate::files::{Filled, fill};
-use crate::saying::fail;
+use crate::saying::{ErrorOutput, fail};
 use crate::text::put;
+use std::io::Read;
 
 // A book of 32 cycles, one of 255, each with a byte more, which tells a longer file: its length is wrong either way.
 pub const SMALL_ROOM: usize = 2_097_541;
@@ -28,20 +29,19 @@ pub struct Begun {
     pub length: usize,
 }
 
-// Reads the header of a book; a line says where it cannot be opened or read.
-pub fn begin_book(program: &[u8], path: &[u8], fd: i32, header: &mut [u8; 4]) -> Begun
+// Reads the header of a book; a line says where it cannot be read.
+pub fn begin_book(
+    rt: &impl ErrorOutput,
+    program: &[u8],
+    path: &[u8],
+    file: &mut impl Read,
+    header: &mut [u8; 4],
+) -> Begun
     ensures { IsPrefixLen result.length header.new }
 {
-    if fd < 0 {
-        fail(program, path);
-        return Begun {
-            room: Room::Neither,
-            length: 0,
-        };
-    }
-    let got = fill(fd, header, 0);
-    if got.failed {
-        fail(program, path);
+    let got = fill(file, header, 0);
+    if let Some(e) = got.failed {
+        fail(rt, program, path, e);
         return Begun {
             room: Room::Neither,
             length: 0,
@@ -64,13 +64,20 @@ fn room_for(high: u8, low: u8) -> Room {
 }
 
 // Puts the header into the room and reads the rest behind it; a line says where it cannot be read.
-pub fn read_book(program: &[u8], path: &[u8], fd: i32, header: &[u8], room: &mut [u8]) -> Filled
+pub fn read_book(
+    rt: &impl ErrorOutput,
+    program: &[u8],
+    path: &[u8],
+    file: &mut impl Read,
+    header: &[u8],
+    room: &mut [u8],
+) -> Filled
     ensures { IsPrefixLen result.length room.new }
 {
     let at = put(&mut *room, 0, header);
-    let got = fill(fd, &mut *room, at);
-    if got.failed {
-        fail(program, path);
+    let got = fill(file, &mut *room, at);
+    if let Some(e) = got.failed {
+        fail(rt, program, path, e);
     }
     got
 }

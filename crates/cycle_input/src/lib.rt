@@ -1,12 +1,14 @@
 // Cycles from the major frames of standard input: what the programs over cycles share. What is left out is said on standard error, each line after the
 // program's name.
+#![tactic(auto)]
+
 ghost use Rattle.std.specs.Prelude.{◌≡◌, false};
 ghost use Rattle.command.specs.Text.{Adds};
 ghost use Rattle.cycle_input.specs.Reading.{ReadPromise, frames_text};
 
 use base::format::MAJOR_FRAME;
-use command::put_field;
-use libc::STDIN_FILENO;
+use command::{ErrorOutput, put_field};
+use std::io::{Error, Input};
 
 // How far standard input was read: whether the area holds a cycle now; else it has ended, within a frame where it is cut, or could not be read.
 #[derive(Clone, Copy)]
@@ -21,31 +23,45 @@ pub struct Read {
 const LINE: usize = 64;
 
 // Reads on behind so many frames, until the area of 65,536 bytes holds a cycle or standard input ends. Frames that are in no cycle are said.
-pub fn next_cycle(program: &[u8], year: u64, area: &mut [u8], before: u64) -> Read
+pub fn next_cycle(
+    rt: &(impl Input + ErrorOutput),
+    program: &[u8],
+    year: u64,
+    area: &mut [u8],
+    before: u64,
+) -> Read
     ensures { ReadPromise year before area.new result }
 {
     let mut space = [0u8; MAJOR_FRAME];
     let frame: &mut [u8] = &mut space;
-    gather(program, year, area, before, frame)
+    gather(rt, program, year, area, before, frame)
 }
 
 // The same with a room for a frame.
-fn gather(program: &[u8], year: u64, area: &mut [u8], before: u64, frame: &mut [u8]) -> Read
+fn gather(
+    rt: &(impl Input + ErrorOutput),
+    program: &[u8],
+    year: u64,
+    area: &mut [u8],
+    before: u64,
+    frame: &mut [u8],
+) -> Read
     ensures { ReadPromise year before area.new result }
 {
+    let mut input = rt.reader();
     let mut frames = before;
     let mut bits: u64 = 0;
     while frames < u64::MAX {
-        let got = command::fill(STDIN_FILENO, &mut *frame, 0);
+        let got = command::fill(&mut input, &mut *frame, 0);
         if got.length < frame.len() {
-            return stopped(program, frames, bits, got.length, got.failed);
+            return stopped(rt, program, frames, bits, got.length, got.failed);
         }
         let brought = cycle_frames::next(year, &mut *area, bits, frame);
         if brought.refusal != 0 {
-            command::refuse(program, b"standard input", brought.refusal);
+            command::refuse(rt, program, b"standard input", brought.refusal);
             return ended(true, false, frames);
         }
-        say_left_out(program, first_held(frames, bits), brought.omitted);
+        say_left_out(rt, program, first_held(frames, bits), brought.omitted);
         frames += 1;
         if brought.whole {
             return found(frames);
@@ -56,20 +72,33 @@ fn gather(program: &[u8], year: u64, area: &mut [u8], before: u64, frame: &mut [
 }
 
 // Standard input has no whole frame more: a line says why, and the frames that are held are left out.
-fn stopped(program: &[u8], frames: u64, bits: u64, length: usize, failed: bool) -> Read
+fn stopped(
+    rt: &impl ErrorOutput,
+    program: &[u8],
+    frames: u64,
+    bits: u64,
+    length: usize,
+    failed: Option<Error>,
+) -> Read
     ensures { result.whole ≡ false }
 {
-    if failed {
-        command::fail(program, b"standard input");
+    if let Some(e) = failed {
+        command::fail(rt, program, b"standard input", e);
     }
-    say_left_out(program, first_held(frames, bits), cycle_frames::held(bits));
-    if failed {
+    say_left_out(
+        rt,
+        program,
+        first_held(frames, bits),
+        cycle_frames::held(bits),
+    );
+    if failed.is_some() {
         return ended(true, false, frames);
     }
     if length == 0 {
         return ended(false, false, frames);
     }
     command::say(
+        rt,
         program,
         b"standard input",
         b"it ends within a frame, which is left out",
@@ -108,22 +137,29 @@ fn first_held(frames: u64, bits: u64) -> u64 {
     frames - held
 }
 
-fn say_left_out(program: &[u8], first: u64, count: u64) {
-    say_of(program, first, count, b"in no cycle");
+fn say_left_out(rt: &impl ErrorOutput, program: &[u8], first: u64, count: u64) {
+    say_of(rt, program, first, count, b"in no cycle");
 }
 
 // A line of so many frames from this one on; none where there are none.
-pub fn say_of(program: &[u8], first: u64, count: u64, words: &[u8]) {
+pub fn say_of(rt: &impl ErrorOutput, program: &[u8], first: u64, count: u64, words: &[u8]) {
     if count == 0 {
         return;
     }
     let mut space = [0u8; LINE];
-    say_of_in(program, first, count, words, &mut space);
+    say_of_in(rt, program, first, count, words, &mut space);
 }
 
-fn say_of_in(program: &[u8], first: u64, count: u64, words: &[u8], text: &mut [u8]) {
+fn say_of_in(
+    rt: &impl ErrorOutput,
+    program: &[u8],
+    first: u64,
+    count: u64,
+    words: &[u8],
+    text: &mut [u8],
+) {
     let n = put_frames(&mut *text, first, count);
-    command::say(program, &text[..n], words);
+    command::say(rt, program, &text[..n], words);
 }
 
 // `frame 7`, or `frames 7 and 2 after it`.

@@ -1,5 +1,7 @@
 // Runs the data pointer's entries on the records of standard input and writes a line for each answer: what tests/data_pointer_vectors.py
 // makes, with the answers that it worked out by walking.
+#![tactic(auto)]
+
 use data_pointer::Answer;
 use vectors::{field, filled, number, put};
 

@@ -1,5 +1,7 @@
 // Writes the text of the doubles of standard input, eight bytes each, first byte highest, a line for each: what tests/items_samples.py makes, with
 // the lines that it worked out by other means.
+#![tactic(auto)]
+
 use vectors::number;
 
 const LINE: usize = 1152;

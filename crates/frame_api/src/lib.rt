@@ -1,5 +1,7 @@
 // What goes with frames for programs in other languages: entries over VCDU headers, the data pointer
 // and the frame store. `frame_api_c` exports them, and include/pcd.h declares them for C.
+#![tactic(auto)]
+
 mod headers;
 mod pointer;
 mod slots;

@@ -1,5 +1,7 @@
 // Runs the frame store on the records of standard input and writes a line for each answer: what tests/frame_store_vectors.py makes, with the
 // answers that it worked out by other means. Area and bits are handed on from record to record.
+#![tactic(auto)]
+
 ghost use Rattle.std.specs.Prelude.{◌≡◌, length};
 
 use frame_store::{Released, Stored};

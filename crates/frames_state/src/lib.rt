@@ -1,4 +1,6 @@
 // How the reading of a reel and the writing of its frames stand: a leaf for `pcd_frames`.
+#![tactic(auto)]
+
 ghost use Rattle.std.specs.Prelude.{◌≡◌, ◌+◌};
 ghost use Rattle.frames_state.specs.Frames.{SameReel};
 

@@ -1,5 +1,7 @@
 // Runs the records of a cycle on the records of standard input and writes lines for each answer: what tests/orbit_vectors.py makes, with the answers
 // that it worked out by other means. One area, of a cycle and 128 bytes more, stays from record to record.
+#![tactic(auto)]
+
 use base::format;
 use orbit::attitude::Attitude;
 use orbit::clock::Clock;

@@ -1,5 +1,7 @@
 // Runs the pay system's entries on the records of standard input and writes a line for each answer: what tests/pay_vectors.py makes, with the
 // answers that it worked out by other means.
+#![tactic(auto)]
+
 ghost use Rattle.std.specs.Prelude.{◌<◌};
 
 use vectors::{filled, number, put};

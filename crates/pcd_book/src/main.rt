@@ -1,14 +1,18 @@
 // Writes a book of the cycles that the major frames of standard input give. Of the arguments from the second on, each pair is a year and how many cycles
 // there is room for; the first names the descriptor for the status. Standard input is read to its end for the first pair. Status 1 where a cycle is
 // left out, or where standard input or the book cannot be read or written whole.
+#![tactic(auto)]
+
 mod gathering;
 mod writing;
 
 ghost use Rattle.std.specs.Prelude.{length};
 ghost use Rattle.pcd_book.specs.Shelves.{Roomy, Bound};
 
-use command::{LARGE_ROOM, Parsed, SMALL_ROOM};
+use command::{ErrorOutput, LARGE_ROOM, Parsed, SMALL_ROOM};
 use cycle::CYCLE;
+use std::io::Input;
+use std::rt::Env;
 
 // Bodies of 32 cycles and of 255, each with one more, in which frames are held.
 const SMALL_BODIES: usize = 2_162_688;
@@ -17,95 +21,95 @@ const LARGE_BODIES: usize = 16_777_216;
 
 const SMALL_CYCLES: u64 = 32;
 
-fn main() {
-    if write_from(2, os::arg_count()) {
-        command::end(0);
+fn main(rt: HostRuntime) {
+    if write_from(&rt, 2, command::argument_count(&rt)) {
+        command::end(&rt, 0);
         return;
     }
-    command::end(1);
+    command::end(&rt, 1);
 }
 
 // Writes the books that the pairs of arguments from i on ask for; true where all is done. It calls itself, and the compiler does not merge the frame of
 // a room with that of such a function: the large rooms are on the stack only where they are asked for.
-fn write_from(i: usize, count: usize) -> bool {
+fn write_from<R: Env + Input + Print + ErrorOutput>(rt: &R, i: usize, count: usize) -> bool {
     if count <= i {
         return true;
     }
     if count - i < 2 {
         return true;
     }
-    if few_at(i + 1) {
-        let done = in_small_rooms(i);
-        return write_from(i + 2, count) & done;
+    if few_at(rt, i + 1) {
+        let done = in_small_rooms(rt, i);
+        return write_from(rt, i + 2, count) & done;
     }
-    let done = in_large_rooms(i);
-    write_from(i + 2, count) & done
+    let done = in_large_rooms(rt, i);
+    write_from(rt, i + 2, count) & done
 }
 
 // Whether an argument asks for no more cycles than the small rooms hold.
-fn few_at(i: usize) -> bool {
+fn few_at(rt: &impl Env, i: usize) -> bool {
     let mut word = [0u8; 64];
-    let n = os::arg(i, &mut word);
+    let n = command::argument(rt, i, &mut word);
     match command::number(&word[..n]) {
         Parsed::Value(cycles) => cycles <= SMALL_CYCLES,
         Parsed::NotANumber => true,
     }
 }
 
-fn in_small_rooms(i: usize) -> bool {
+fn in_small_rooms<R: Env + Input + Print + ErrorOutput>(rt: &R, i: usize) -> bool {
     let mut space = [0u8; SMALL_BODIES];
     let bodies: &mut [u8] = &mut space;
-    gather_small(i, bodies)
+    gather_small(rt, i, bodies)
 }
 
-fn gather_small(i: usize, bodies: &mut [u8]) -> bool
+fn gather_small<R: Env + Input + Print + ErrorOutput>(rt: &R, i: usize, bodies: &mut [u8]) -> bool
     requires { Roomy (length bodies.old) }
 {
-    let year = year_argument::year_at(b"pcd-book", i);
+    let year = year_argument::year_at(rt, b"pcd-book", i);
     if year == 0 {
         return false;
     }
-    let shelf = gathering::gather(year, &mut *bodies);
+    let shelf = gathering::gather(rt, year, &mut *bodies);
     if shelf.failed {
         return false;
     }
     let n = CYCLE * shelf.cycles;
-    write_small(year, &bodies[0..n]) & shelf.all
+    write_small(rt, year, &bodies[0..n]) & shelf.all
 }
 
-fn write_small(year: u64, bodies: &[u8]) -> bool
+fn write_small(rt: &(impl Print + ErrorOutput), year: u64, bodies: &[u8]) -> bool
     requires { Bound year bodies.now }
 {
     let mut space = [0u8; SMALL_ROOM];
     let out: &mut [u8] = &mut space;
-    writing::write(year, bodies, out)
+    writing::write(rt, year, bodies, out)
 }
 
-fn in_large_rooms(i: usize) -> bool {
+fn in_large_rooms<R: Env + Input + Print + ErrorOutput>(rt: &R, i: usize) -> bool {
     let mut space = [0u8; LARGE_BODIES];
     let bodies: &mut [u8] = &mut space;
-    gather_large(i, bodies)
+    gather_large(rt, i, bodies)
 }
 
-fn gather_large(i: usize, bodies: &mut [u8]) -> bool
+fn gather_large<R: Env + Input + Print + ErrorOutput>(rt: &R, i: usize, bodies: &mut [u8]) -> bool
     requires { Roomy (length bodies.old) }
 {
-    let year = year_argument::year_at(b"pcd-book", i);
+    let year = year_argument::year_at(rt, b"pcd-book", i);
     if year == 0 {
         return false;
     }
-    let shelf = gathering::gather(year, &mut *bodies);
+    let shelf = gathering::gather(rt, year, &mut *bodies);
     if shelf.failed {
         return false;
     }
     let n = CYCLE * shelf.cycles;
-    write_large(year, &bodies[0..n]) & shelf.all
+    write_large(rt, year, &bodies[0..n]) & shelf.all
 }
 
-fn write_large(year: u64, bodies: &[u8]) -> bool
+fn write_large(rt: &(impl Print + ErrorOutput), year: u64, bodies: &[u8]) -> bool
     requires { Bound year bodies.now }
 {
     let mut space = [0u8; LARGE_ROOM];
     let out: &mut [u8] = &mut space;
-    writing::write(year, bodies, out)
+    writing::write(rt, year, bodies, out)
 }

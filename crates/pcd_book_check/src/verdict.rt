@@ -6,7 +6,7 @@ ghost use Rattle.command.specs.Text.{Adds};
 ghost use Rattle.pcd_book_check.specs.Verdicts.{verdict_line, verdict_text, fault_text, is_yes};
 
 use book_check::Verdict;
-use command::{put_field, put_meaning};
+use command::{ErrorOutput, put_field, put_meaning};
 
 // A path and its verdict.
 const LINE: usize = 4608;
@@ -15,20 +15,25 @@ const LINE: usize = 4608;
 const WHOLE_BOOK: u8 = 16;
 
 // Writes the line of a book; true where it is accepted and the line is written.
-pub(crate) fn report(path: &[u8], book: &[u8]) -> bool
+pub(crate) fn report(rt: &(impl Print + ErrorOutput), path: &[u8], book: &[u8]) -> bool
     ensures { result ≡ true → verdict book.now ≡ Accepted }
 {
     let verdict = book_check::check(book);
     let mut space = [0u8; LINE];
-    if show_line(path, verdict, &mut space) {
+    if show_line(rt, path, verdict, &mut space) {
         return is_yes(verdict);
     }
     false
 }
 
-fn show_line(path: &[u8], verdict: Verdict, line: &mut [u8]) -> bool {
+fn show_line(
+    rt: &(impl Print + ErrorOutput),
+    path: &[u8],
+    verdict: Verdict,
+    line: &mut [u8],
+) -> bool {
     let n = put_line(&mut *line, path, verdict);
-    command::show(b"pcd-book-check", &line[..n])
+    command::show(rt, b"pcd-book-check", &line[..n])
 }
 
 fn is_yes(verdict: Verdict) -> bool

@@ -4,7 +4,7 @@ ghost use Rattle.command.specs.Text.{Adds};
 ghost use Rattle.pcd_book_compare.specs.Lines.{line_text};
 
 use book_compare::Compared;
-use command::{put, put_field};
+use command::{ErrorOutput, put, put_field};
 
 const LINE: usize = 256;
 
@@ -18,30 +18,30 @@ const ONLY_FIRST: u64 = 1;
 const ONLY_SECOND: u64 = 2;
 
 // Writes the lines and answers the status: 0 only where the books are equal byte for byte.
-pub(crate) fn report(first: &[u8], second: &[u8]) -> u64
+pub(crate) fn report(rt: &(impl Print + ErrorOutput), first: &[u8], second: &[u8]) -> u64
     ensures { result ≡ 0 → first.now ≡ second.now }
 {
     let mut space = [0u64; book_compare::TABLE];
     let table: &mut [u64] = &mut space;
-    compared(first, second, table)
+    compared(rt, first, second, table)
 }
 
-fn compared(first: &[u8], second: &[u8], table: &mut [u64]) -> u64
+fn compared(rt: &(impl Print + ErrorOutput), first: &[u8], second: &[u8], table: &mut [u64]) -> u64
     ensures { result ≡ 0 → first.now ≡ second.now }
 {
     match book_compare::compare(first, second, &mut *table) {
         Compared::Lines(n) => {
-            return show_lines(table, n);
+            return show_lines(rt, table, n);
         }
         Compared::Refused(number) => {
-            command::refuse(b"pcd-book-compare", b"the books", number);
+            command::refuse(rt, b"pcd-book-compare", b"the books", number);
             return REFUSED;
         }
     }
 }
 
 // 0 for no line, 1 for some; 2 where one cannot be written.
-fn show_lines(table: &[u64], n: u64) -> u64
+fn show_lines(rt: &(impl Print + ErrorOutput), table: &[u64], n: u64) -> u64
     ensures { result ≡ 0 → n ≡ 0 }
 {
     if n == 0 {
@@ -53,7 +53,7 @@ fn show_lines(table: &[u64], n: u64) -> u64
         if table.len() - at < 3 {
             return REFUSED;
         }
-        if !show_line(table[at], table[at + 1], table[at + 2]) {
+        if !show_line(rt, table[at], table[at + 1], table[at + 2]) {
             return REFUSED;
         }
         at += 3;
@@ -62,14 +62,20 @@ fn show_lines(table: &[u64], n: u64) -> u64
     DIFFERENT
 }
 
-fn show_line(instant: u64, case: u64, place: u64) -> bool {
+fn show_line(rt: &(impl Print + ErrorOutput), instant: u64, case: u64, place: u64) -> bool {
     let mut space = [0u8; LINE];
-    show_line_in(instant, case, place, &mut space)
+    show_line_in(rt, instant, case, place, &mut space)
 }
 
-fn show_line_in(instant: u64, case: u64, place: u64, line: &mut [u8]) -> bool {
+fn show_line_in(
+    rt: &(impl Print + ErrorOutput),
+    instant: u64,
+    case: u64,
+    place: u64,
+    line: &mut [u8],
+) -> bool {
     let n = put_line(&mut *line, instant, case, place);
-    command::show(b"pcd-book-compare", &line[..n])
+    command::show(rt, b"pcd-book-compare", &line[..n])
 }
 
 fn put_line(out: &mut [u8], instant: u64, case: u64, place: u64) -> usize

@@ -1,29 +1,34 @@
 // Compares books: of the arguments from the second on, each pair is two books; the first names the descriptor for the status. The lines by which
 // they differ go to standard output, by rising instant. Status 0 where they are equal, 1 where they differ, 2 where a book is refused, cannot be
 // read, or the lines cannot be written.
+#![tactic(auto)]
+
 mod differences;
 
 ghost use Rattle.io.specs.Counts.{IsPrefixLen};
 
-use command::{Filled, LARGE_ROOM, Room, SMALL_ROOM};
+use command::{ErrorOutput, Filled, LARGE_ROOM, Room, SMALL_ROOM};
+use std::io::Read;
+use std::rt::{Env, Files};
 
 const REFUSED: u64 = 2;
 
-fn main() {
-    command::end(compare_from(2, os::arg_count()));
+fn main(rt: HostRuntime) {
+    let status = compare_from(&rt, 2, command::argument_count(&rt));
+    command::end(&rt, status);
 }
 
-// A book that is opened: its descriptor, the room that it needs, and how much of its header there is.
-#[derive(Clone, Copy)]
-struct Opened {
-    fd: i32,
+// A book: its file where that could be opened, the room that it needs, and how much of its header there is.
+#[derive(Drop)]
+struct Opened<F> {
+    file: Option<F>,
     room: Room,
     length: usize,
 }
 
 // Compares the pairs of arguments from i on and answers the highest status. It calls itself, and the compiler does not merge the frame of a room
 // with that of such a function: a room is on the stack only while its book is read.
-fn compare_from(i: usize, count: usize) -> u64 {
+fn compare_from<R: Env + Files + Print + ErrorOutput>(rt: &R, i: usize, count: usize) -> u64 {
     if count <= i {
         return 0;
     }
@@ -32,48 +37,53 @@ fn compare_from(i: usize, count: usize) -> u64 {
     }
     let mut first_header = [0u8; 4];
     let mut second_header = [0u8; 4];
-    let first = begin_at(i, &mut first_header);
-    let second = begin_at(i + 1, &mut second_header);
+    let first = begin_at(rt, i, &mut first_header);
+    let second = begin_at(rt, i + 1, &mut second_header);
     let k = first.length;
     let m = second.length;
-    let first_room = first.room;
-    let second_room = second.room;
-    let room = larger(first_room, second_room);
+    let room = larger(first.room, second.room);
     let mut status = REFUSED;
-    match room {
-        Room::Neither => (),
-        Room::Small => status = in_small_rooms(
-            i,
-            first.fd,
-            &first_header[..k],
-            second.fd,
-            &second_header[..m],
-        ),
-        Room::Large => status = in_large_rooms(
-            i,
-            first.fd,
-            &first_header[..k],
-            second.fd,
-            &second_header[..m],
-        ),
+    if let (Some(mut a), Some(mut b)) = (first.file, second.file) {
+        match room {
+            Room::Neither => (),
+            Room::Small => status = in_small_rooms(
+                rt,
+                i,
+                &mut a,
+                &first_header[..k],
+                &mut b,
+                &second_header[..m],
+            ),
+            Room::Large => status = in_large_rooms(
+                rt,
+                i,
+                &mut a,
+                &first_header[..k],
+                &mut b,
+                &second_header[..m],
+            ),
+        }
     }
-    libc::close(first.fd);
-    libc::close(second.fd);
-    higher(status, compare_from(i + 2, count))
+    higher(status, compare_from(rt, i + 2, count))
 }
 
 // Opens the book that an argument names and reads its header.
-fn begin_at(i: usize, header: &mut [u8; 4]) -> Opened
+fn begin_at<R: Env + Files + ErrorOutput>(rt: &R, i: usize, header: &mut [u8; 4]) -> Opened<R::File>
     ensures { IsPrefixLen result.length header.new }
 {
     let mut path = io::buffer();
-    let n = os::arg(i, &mut path);
-    let fd = os::open_read(&path[..n]);
-    let begun = command::begin_book(b"pcd-book-compare", &path[..n], fd, header);
-    let room = begun.room;
+    let n = command::argument(rt, i, &mut path);
+    let Some(mut file) = command::open(rt, b"pcd-book-compare", &path[..n]) else {
+        return Opened {
+            file: None,
+            room: Room::Neither,
+            length: 0,
+        };
+    };
+    let begun = command::begin_book(rt, b"pcd-book-compare", &path[..n], &mut file, header);
     Opened {
-        fd: fd,
-        room: room,
+        file: Some(file),
+        room: begun.room,
         length: begun.length,
     }
 }
@@ -95,70 +105,105 @@ fn higher(a: u64, b: u64) -> u64 {
     if a < b { b } else { a }
 }
 
-fn in_small_rooms(i: usize, a: i32, first_header: &[u8], b: i32, second_header: &[u8]) -> u64 {
+fn in_small_rooms(
+    rt: &(impl Env + Print + ErrorOutput),
+    i: usize,
+    a: &mut impl Read,
+    first_header: &[u8],
+    b: &mut impl Read,
+    second_header: &[u8],
+) -> u64 {
     let mut space = [0u8; SMALL_ROOM];
     let first: &mut [u8] = &mut space;
-    read_first_small(i, a, first_header, first, b, second_header)
+    read_first_small(rt, i, a, first_header, first, b, second_header)
 }
 
 fn read_first_small(
+    rt: &(impl Env + Print + ErrorOutput),
     i: usize,
-    a: i32,
+    a: &mut impl Read,
     first_header: &[u8],
     first: &mut [u8],
-    b: i32,
+    b: &mut impl Read,
     second_header: &[u8],
 ) -> u64 {
-    let got = read_at(i, a, first_header, &mut *first);
-    if got.failed {
+    let got = read_at(rt, i, a, first_header, &mut *first);
+    if got.failed.is_some() {
         return REFUSED;
     }
     let n = got.length;
-    beside_small_room(i, &first[..n], b, second_header)
+    beside_small_room(rt, i, &first[..n], b, second_header)
 }
 
-fn beside_small_room(i: usize, first: &[u8], b: i32, second_header: &[u8]) -> u64 {
+fn beside_small_room(
+    rt: &(impl Env + Print + ErrorOutput),
+    i: usize,
+    first: &[u8],
+    b: &mut impl Read,
+    second_header: &[u8],
+) -> u64 {
     let mut space = [0u8; SMALL_ROOM];
     let second: &mut [u8] = &mut space;
-    compare(i, first, b, second_header, second)
+    compare(rt, i, first, b, second_header, second)
 }
 
-fn in_large_rooms(i: usize, a: i32, first_header: &[u8], b: i32, second_header: &[u8]) -> u64 {
+fn in_large_rooms(
+    rt: &(impl Env + Print + ErrorOutput),
+    i: usize,
+    a: &mut impl Read,
+    first_header: &[u8],
+    b: &mut impl Read,
+    second_header: &[u8],
+) -> u64 {
     let mut space = [0u8; LARGE_ROOM];
     let first: &mut [u8] = &mut space;
-    read_first_large(i, a, first_header, first, b, second_header)
+    read_first_large(rt, i, a, first_header, first, b, second_header)
 }
 
 fn read_first_large(
+    rt: &(impl Env + Print + ErrorOutput),
     i: usize,
-    a: i32,
+    a: &mut impl Read,
     first_header: &[u8],
     first: &mut [u8],
-    b: i32,
+    b: &mut impl Read,
     second_header: &[u8],
 ) -> u64 {
-    let got = read_at(i, a, first_header, &mut *first);
-    if got.failed {
+    let got = read_at(rt, i, a, first_header, &mut *first);
+    if got.failed.is_some() {
         return REFUSED;
     }
     let n = got.length;
-    beside_large_room(i, &first[..n], b, second_header)
+    beside_large_room(rt, i, &first[..n], b, second_header)
 }
 
-fn beside_large_room(i: usize, first: &[u8], b: i32, second_header: &[u8]) -> u64 {
+fn beside_large_room(
+    rt: &(impl Env + Print + ErrorOutput),
+    i: usize,
+    first: &[u8],
+    b: &mut impl Read,
+    second_header: &[u8],
+) -> u64 {
     let mut space = [0u8; LARGE_ROOM];
     let second: &mut [u8] = &mut space;
-    compare(i, first, b, second_header, second)
+    compare(rt, i, first, b, second_header, second)
 }
 
 // Reads the second book into its room and compares it with the first.
-fn compare(i: usize, first: &[u8], b: i32, second_header: &[u8], second: &mut [u8]) -> u64 {
-    let got = read_at(after(i), b, second_header, &mut *second);
-    if got.failed {
+fn compare(
+    rt: &(impl Env + Print + ErrorOutput),
+    i: usize,
+    first: &[u8],
+    b: &mut impl Read,
+    second_header: &[u8],
+    second: &mut [u8],
+) -> u64 {
+    let got = read_at(rt, after(i), b, second_header, &mut *second);
+    if got.failed.is_some() {
         return REFUSED;
     }
     let n = got.length;
-    differences::report(first, &second[..n])
+    differences::report(rt, first, &second[..n])
 }
 
 // The next argument; there are never so many that none comes after it.
@@ -166,10 +211,16 @@ fn after(i: usize) -> usize {
     if i < usize::MAX { i + 1 } else { i }
 }
 
-fn read_at(i: usize, fd: i32, header: &[u8], room: &mut [u8]) -> Filled
+fn read_at(
+    rt: &(impl Env + ErrorOutput),
+    i: usize,
+    file: &mut impl Read,
+    header: &[u8],
+    room: &mut [u8],
+) -> Filled
     ensures { IsPrefixLen result.length room.new }
 {
     let mut path = io::buffer();
-    let n = os::arg(i, &mut path);
-    command::read_book(b"pcd-book-compare", &path[..n], fd, header, room)
+    let n = command::argument(rt, i, &mut path);
+    command::read_book(rt, b"pcd-book-compare", &path[..n], file, header, room)
 }

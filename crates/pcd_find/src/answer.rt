@@ -4,7 +4,7 @@ ghost use Rattle.book.specs.Faults.{view_refusal};
 ghost use Rattle.command.specs.Text.{Adds};
 ghost use Rattle.pcd_find.specs.Answers.{answer_line, found_text, none_text, refused_text, InstantsPromise};
 
-use command::{put, put_field};
+use command::{ErrorOutput, put, put_field};
 use lookup::Found;
 
 const LINE: usize = 128;
@@ -12,15 +12,20 @@ const LINE: usize = 128;
 const MOST_CYCLES: usize = 255;
 
 // Looks the instant up in an accepted book and writes the answer; a line says where the book is refused.
-pub(crate) fn report(path: &[u8], book: &[u8], wanted: u64) -> bool {
+pub(crate) fn report(
+    rt: &(impl Print + ErrorOutput),
+    path: &[u8],
+    book: &[u8],
+    wanted: u64,
+) -> bool {
     let number = book::view_refusal(book);
     if number != 0 {
-        command::refuse(b"pcd-find", path, number);
+        command::refuse(rt, b"pcd-find", path, number);
         return false;
     }
     let mut space = [0u64; MOST_CYCLES];
     let n = put_instants(book, &mut space);
-    show_answer(&space[..n], wanted)
+    show_answer(rt, &space[..n], wanted)
 }
 
 // Puts the instants of an accepted book's entries into the list and answers how many there are.
@@ -37,15 +42,20 @@ fn put_instants(book: &[u8], out: &mut [u64]) -> usize
     n
 }
 
-fn show_answer(instants: &[u64], wanted: u64) -> bool {
+fn show_answer(rt: &(impl Print + ErrorOutput), instants: &[u64], wanted: u64) -> bool {
     let found = lookup::find(instants, wanted);
     let mut space = [0u8; LINE];
-    show_line(instants, found, &mut space)
+    show_line(rt, instants, found, &mut space)
 }
 
-fn show_line(instants: &[u64], found: Found, line: &mut [u8]) -> bool {
+fn show_line(
+    rt: &(impl Print + ErrorOutput),
+    instants: &[u64],
+    found: Found,
+    line: &mut [u8],
+) -> bool {
     let n = put_answer(&mut *line, instants, found);
-    command::show(b"pcd-find", &line[..n])
+    command::show(rt, b"pcd-find", &line[..n])
 }
 
 fn put_answer(out: &mut [u8], instants: &[u64], found: Found) -> usize

@@ -2,48 +2,43 @@
 ghost use Rattle.command.specs.Text.{Adds};
 ghost use Rattle.pcd_frames.specs.Lines.{progress_text};
 
-use command::{put, put_field};
+use command::{ErrorOutput, put, put_field, write_error};
 use frames_state::Progress;
-use libc::STDERR_FILENO;
+use std::io::IsTerminal;
+use std::rt::Clock;
 
 const LINE: usize = 128;
 
 const MEGABYTE: u64 = 1_000_000;
 
-pub fn begin() -> Progress {
-    let now = seconds();
+pub fn begin(rt: &(impl Clock + ErrorOutput)) -> Progress {
+    let now = seconds(rt);
     Progress {
-        terminal: libc::isatty(STDERR_FILENO) == 1,
+        terminal: rt.error_output().is_terminal(),
         began: now,
         shown: now,
     }
 }
 
-fn seconds() -> u64 {
-    let mut now: i64 = 0;
-    libc::time(&mut now);
-    whole(now)
-}
-
-// 0 for a negative number.
-fn whole(n: i64) -> u64 {
-    if n > 0 {
-        return n as u64;
+// Since 1970; 0 where the clock cannot be read.
+fn seconds(rt: &impl Clock) -> u64 {
+    match rt.since_1970() {
+        Ok(now) => now.as_secs(),
+        Err(_) => 0,
     }
-    0
 }
 
 // The line, where a second has gone by.
-pub fn tell(p: Progress, bytes: u64, frames: u64) -> Progress {
+pub fn tell(rt: &(impl Clock + ErrorOutput), p: Progress, bytes: u64, frames: u64) -> Progress {
     if !p.terminal {
         return p;
     }
-    let now = seconds();
+    let now = seconds(rt);
     if now <= p.shown {
         return p;
     }
     let mut space = [0u8; LINE];
-    write_line(&mut space, bytes, frames, rate(bytes, p.began, now));
+    write_line(rt, &mut space, bytes, frames, rate(bytes, p.began, now));
     let mut next = p;
     next.shown = now;
     next
@@ -57,9 +52,9 @@ fn rate(bytes: u64, began: u64, now: u64) -> u64 {
     bytes / MEGABYTE / (now - began)
 }
 
-fn write_line(line: &mut [u8], bytes: u64, frames: u64, rate: u64) {
+fn write_line(rt: &impl ErrorOutput, line: &mut [u8], bytes: u64, frames: u64, rate: u64) {
     let n = put_line(&mut *line, bytes, frames, rate);
-    io::write_all(STDERR_FILENO, &line[..n]);
+    write_error(rt, &line[..n]);
 }
 
 fn put_line(line: &mut [u8], bytes: u64, frames: u64, rate: u64) -> usize
@@ -72,8 +67,8 @@ fn put_line(line: &mut [u8], bytes: u64, frames: u64, rate: u64) -> usize
 }
 
 // Ends the line.
-pub fn end(p: Progress) {
+pub fn end(rt: &impl ErrorOutput, p: Progress) {
     if p.terminal {
-        io::write_all(STDERR_FILENO, b"\n");
+        write_error(rt, b"\n");
     }
 }

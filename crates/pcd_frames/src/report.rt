@@ -2,31 +2,30 @@
 ghost use Rattle.command.specs.Text.{Adds};
 ghost use Rattle.pcd_frames.specs.Lines.{lead_ins_text, operator_text};
 
-use command::{put, put_field};
+use command::{ErrorOutput, put, put_field, write_error};
 use labelling::{Operators, Tally};
-use libc::STDERR_FILENO;
 
 const TEXT: usize = 128;
 
-pub(crate) fn show(t: Tally, handed: u64, operators: bool) {
-    tally_text::show(STDERR_FILENO, t);
+pub(crate) fn show(rt: &impl ErrorOutput, t: Tally, handed: u64, operators: bool) {
+    tally_text::show(&rt.error_output(), t);
     let mut space = [0u8; TEXT];
-    show_lead_ins(&mut space, handed);
+    show_lead_ins(rt, &mut space, handed);
     if operators {
         let o = t.operators;
-        show_operators(o);
+        show_operators(rt, o);
     }
 }
 
-fn show_lead_ins(text: &mut [u8], handed: u64) {
+fn show_lead_ins(rt: &impl ErrorOutput, text: &mut [u8], handed: u64) {
     let n = put_lead_ins(&mut *text, handed);
-    io::write_all(STDERR_FILENO, &text[..n]);
+    write_error(rt, &text[..n]);
 }
 
-fn show_operators(o: Operators) {
+fn show_operators(rt: &impl ErrorOutput, o: Operators) {
     let mut k: usize = 0;
     while k < 8 {
-        show_operator(k as u64, paid(o, k));
+        show_operator(rt, k as u64, paid(o, k));
         k += 1;
     }
 }
@@ -39,14 +38,14 @@ fn paid(o: Operators, k: usize) -> u64 {
     0
 }
 
-fn show_operator(k: u64, n: u64) {
+fn show_operator(rt: &impl ErrorOutput, k: u64, n: u64) {
     let mut space = [0u8; TEXT];
-    show_operator_in(&mut space, k, n);
+    show_operator_in(rt, &mut space, k, n);
 }
 
-fn show_operator_in(text: &mut [u8], k: u64, n: u64) {
+fn show_operator_in(rt: &impl ErrorOutput, text: &mut [u8], k: u64, n: u64) {
     let end = put_operator(&mut *text, 0, k, n);
-    io::write_all(STDERR_FILENO, &text[..end]);
+    write_error(rt, &text[..end]);
 }
 
 fn put_lead_ins(out: &mut [u8], n: u64) -> usize

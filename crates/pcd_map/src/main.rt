@@ -1,11 +1,16 @@
 // Writes a map of a reel to standard output, as SVG: what each stretch of it gave. Arguments: the descriptor for the status; `strict` for 01's rules
 // alone; and the reel's files, of which `-` is standard input. Status 1 where a file cannot be read, the bytes are refused, or the map cannot be
 // written.
+#![tactic(auto)]
+
 mod picture;
 
+use command::ErrorOutput;
 use picture::Told;
 use reel_map::Map;
-use reel_reading::{Event, Reel};
+use reel_reading::{Event, Reel, Source};
+use std::io::Input;
+use std::rt::{Env, Files};
 
 const FIRST_FILE: usize = 3;
 
@@ -24,37 +29,38 @@ struct State {
     goes_on: bool,
 }
 
-fn main() {
+fn main(rt: HostRuntime) {
     let mut space = [0u8; CELLS];
     let cells: &mut [u8] = &mut space;
-    if run(cells) {
-        command::end(0);
+    if run(&rt, cells) {
+        command::end(&rt, 0);
         return;
     }
-    command::end(1);
+    command::end(&rt, 1);
 }
 
 // Reads the reel, and writes its map.
-fn run(cells: &mut [u8]) -> bool {
-    let s = read_all(&mut *cells);
+fn run<R: Env + Files + Input + Print + ErrorOutput>(rt: &R, cells: &mut [u8]) -> bool {
+    let s = read_all(rt, &mut *cells);
     let tally = s.reel.feeder.tally;
     let told = Told {
         bytes: s.reel.taken,
         strict: s.reel.strict,
         tally: tally,
     };
-    picture::show(told, s.map.length, s.map.cell, cells) & s.done
+    picture::show(rt, told, s.map.length, s.map.cell, cells) & s.done
 }
 
-fn read_all(cells: &mut [u8]) -> State {
+fn read_all<R: Env + Files + Input + ErrorOutput>(rt: &R, cells: &mut [u8]) -> State {
     let mut buffer_space = io::large_buffer();
     let buffer: &mut [u8] = &mut buffer_space;
     let mut area_space = [0u8; 16384];
     let area: &mut [u8] = &mut area_space;
-    let mut s = begin();
+    let mut source = Source::Nothing;
+    let mut s = begin(rt);
     let mut turns = MOST_TURNS;
     while 0 < turns {
-        s = turn(s, &mut *buffer, &mut *area, &mut *cells);
+        s = turn(rt, s, &mut source, &mut *buffer, &mut *area, &mut *cells);
         if !s.goes_on {
             return s;
         }
@@ -63,8 +69,8 @@ fn read_all(cells: &mut [u8]) -> State {
     s
 }
 
-fn begin() -> State {
-    let reel = reel_reading::begin(is_strict(), FIRST_FILE);
+fn begin(rt: &impl Env) -> State {
+    let reel = reel_reading::begin(is_strict(rt), FIRST_FILE);
     let map = reel_map::begin();
     State {
         reel: reel,
@@ -75,23 +81,30 @@ fn begin() -> State {
 }
 
 // Whether the second argument is `strict`.
-fn is_strict() -> bool {
+fn is_strict(rt: &impl Env) -> bool {
     let mut word = [0u8; 8];
-    let n = os::arg(2, &mut word);
+    let n = command::argument(rt, 2, &mut word);
     (n == 6) & (word[0] == b's')
 }
 
 // What comes next of the reel, as far as the cell's end, and what is to be done with it.
-fn turn(s: State, buffer: &mut [u8], area: &mut [u8], cells: &mut [u8]) -> State {
-    let next = reel_reading::advance(b"pcd-map", s.reel, s.map.end, buffer, area);
+fn turn<R: Env + Files + Input + ErrorOutput>(
+    rt: &R,
+    s: State,
+    source: &mut Source<R::Reader, R::File>,
+    buffer: &mut [u8],
+    area: &mut [u8],
+    cells: &mut [u8],
+) -> State {
+    let next = reel_reading::advance(rt, b"pcd-map", s.reel, source, s.map.end, buffer, area);
     let mut r = s;
     let after = next.reel;
     r.reel = after;
     let event = next.event;
-    done_with(event, r, cells)
+    done_with(rt, event, r, cells)
 }
 
-fn done_with(event: Event, s: State, cells: &mut [u8]) -> State {
+fn done_with(rt: &impl ErrorOutput, event: Event, s: State, cells: &mut [u8]) -> State {
     match event {
         Event::Onward => {
             return s;
@@ -112,7 +125,7 @@ fn done_with(event: Event, s: State, cells: &mut [u8]) -> State {
             return undone(s);
         }
         Event::Refused(number) => {
-            return refused(s, number, cells);
+            return refused(rt, s, number, cells);
         }
     }
 }
@@ -145,8 +158,8 @@ fn undone(s: State) -> State {
     r
 }
 
-fn refused(s: State, number: u8, cells: &mut [u8]) -> State {
-    command::refuse(b"pcd-map", b"the reel", number);
+fn refused(rt: &impl ErrorOutput, s: State, number: u8, cells: &mut [u8]) -> State {
+    command::refuse(rt, b"pcd-map", b"the reel", number);
     let mut r = ended(s, cells);
     r.done = false;
     r

@@ -2,7 +2,7 @@
 ghost use Rattle.std.specs.Prelude.{◌≤◌};
 ghost use Rattle.io.specs.Counts.{IsPrefixLen};
 
-use command::{put, put_field};
+use command::{ErrorOutput, put, put_field};
 use labelling::Tally;
 use map_lines::{put_label, put_legend, put_rect};
 
@@ -26,29 +26,41 @@ pub struct Told {
 }
 
 // Writes the picture of the cells as far as the last one; false where it cannot be written, and a line has said so.
-pub(crate) fn show(told: Told, length: u64, last: usize, cells: &[u8]) -> bool {
+pub(crate) fn show(
+    rt: &(impl Print + ErrorOutput),
+    told: Told,
+    length: u64,
+    last: usize,
+    cells: &[u8],
+) -> bool {
     let mut space = [0u8; TEXT];
     let count = used(last);
-    if !show_head(&mut space, told, length, count) {
+    if !show_head(rt, &mut space, told, length, count) {
         return false;
     }
-    if !show_labels(&mut space, length, count) {
+    if !show_labels(rt, &mut space, length, count) {
         return false;
     }
-    show_cells(&mut space, count, cells)
+    show_cells(rt, &mut space, count, cells)
 }
 
-fn show_cells(text: &mut [u8], count: usize, cells: &[u8]) -> bool {
+fn show_cells(
+    rt: &(impl Print + ErrorOutput),
+    text: &mut [u8],
+    count: usize,
+    cells: &[u8],
+) -> bool {
     if !command::show(
+        rt,
         b"pcd-map",
         b"</g>\n<g transform=\"translate(110 164) scale(6 8)\">\n",
     ) {
         return false;
     }
-    if !show_rows(text, count, cells) {
+    if !show_rows(rt, text, count, cells) {
         return false;
     }
-    command::show(b"pcd-map", b"</g>\n</svg>\n")
+    command::show(rt, b"pcd-map", b"</g>\n</svg>\n")
 }
 
 // How many cells there are up to the last one.
@@ -61,11 +73,17 @@ fn used(last: usize) -> usize
     CELLS
 }
 
-fn show_head(text: &mut [u8], told: Told, length: u64, count: usize) -> bool {
+fn show_head(
+    rt: &(impl Print + ErrorOutput),
+    text: &mut [u8],
+    told: Told,
+    length: u64,
+    count: usize,
+) -> bool {
     let sized = put_size(&mut *text, count);
     let read = put_reading(&mut *text, sized, told.bytes, told.strict, length);
     let n = put_counts(&mut *text, read, told.tally);
-    command::show(b"pcd-map", &text[..n])
+    command::show(rt, b"pcd-map", &text[..n])
 }
 
 // The colours are those of Okabe and Ito, which colour-blind readers tell apart.
@@ -196,14 +214,19 @@ fn put_two(
     put(out, both, b"</text>\n")
 }
 
-fn show_labels(text: &mut [u8], length: u64, count: usize) -> bool {
+fn show_labels(
+    rt: &(impl Print + ErrorOutput),
+    text: &mut [u8],
+    length: u64,
+    count: usize,
+) -> bool {
     let mut row: usize = 0;
     let mut byte: u64 = 0;
     while row < 256 {
         if count <= row * ROW {
             return true;
         }
-        if !show_label(&mut *text, 171 + 8 * row as u64, byte) {
+        if !show_label(rt, &mut *text, 171 + 8 * row as u64, byte) {
             return false;
         }
         byte = reel_map::sum(byte, told_rows(length));
@@ -220,18 +243,18 @@ fn told_rows(length: u64) -> u64 {
     0
 }
 
-fn show_label(text: &mut [u8], y: u64, byte: u64) -> bool {
+fn show_label(rt: &(impl Print + ErrorOutput), text: &mut [u8], y: u64, byte: u64) -> bool {
     let n = put_label(&mut *text, 0, y, byte);
-    command::show(b"pcd-map", &text[..n])
+    command::show(rt, b"pcd-map", &text[..n])
 }
 
-fn show_rows(text: &mut [u8], count: usize, cells: &[u8]) -> bool {
+fn show_rows(rt: &(impl Print + ErrorOutput), text: &mut [u8], count: usize, cells: &[u8]) -> bool {
     let mut row: usize = 0;
     while row < 256 {
         if count <= row * ROW {
             return true;
         }
-        if !show_row(&mut *text, row as u64, row * ROW, count, cells) {
+        if !show_row(rt, &mut *text, row as u64, row * ROW, count, cells) {
             return false;
         }
         row += 1;
@@ -240,9 +263,16 @@ fn show_rows(text: &mut [u8], count: usize, cells: &[u8]) -> bool {
 }
 
 // The row that begins with cell `first`.
-fn show_row(text: &mut [u8], row: u64, first: usize, count: usize, cells: &[u8]) -> bool {
+fn show_row(
+    rt: &(impl Print + ErrorOutput),
+    text: &mut [u8],
+    row: u64,
+    first: usize,
+    count: usize,
+    cells: &[u8],
+) -> bool {
     let n = put_row(&mut *text, row, first, count, cells);
-    command::show(b"pcd-map", &text[..n])
+    command::show(rt, b"pcd-map", &text[..n])
 }
 
 fn put_row(out: &mut [u8], row: u64, first: usize, count: usize, cells: &[u8]) -> usize

@@ -1,43 +1,48 @@
 // Writes the records of the cycles that the major frames of standard input give, as comma-separated values, a line for each value. The second argument
 // is the year; the first names the descriptor for the status. Status 1 where standard input cannot be read, or ends within a frame, and where a line
 // cannot be written.
+#![tactic(auto)]
+
 mod records;
+
+use command::ErrorOutput;
+use std::io::Input;
 
 const HEADER: [u8; 101] =
     *b"cycle,frame,record,item,unit,value,refusal,instant,year,day,hour,minute,second,millisecond,sixteenth\n";
 
-fn main() {
-    let year = year_argument::year_at(b"pcd-orbit", 2);
-    if write_all(year) {
-        command::end(0);
+fn main(rt: HostRuntime) {
+    let year = year_argument::year_at(&rt, b"pcd-orbit", 2);
+    if write_all(&rt, year) {
+        command::end(&rt, 0);
         return;
     }
-    command::end(1);
+    command::end(&rt, 1);
 }
 
-fn write_all(year: u64) -> bool {
+fn write_all(rt: &(impl Input + Print + ErrorOutput), year: u64) -> bool {
     if year == 0 {
         return false;
     }
     let header = &HEADER;
-    if !command::show(b"pcd-orbit", header) {
+    if !command::show(rt, b"pcd-orbit", header) {
         return false;
     }
     let mut space = [0u8; cycle::CYCLE];
     let area: &mut [u8] = &mut space;
-    write_cycles(year, area)
+    write_cycles(rt, year, area)
 }
 
 // The cycles of standard input, one after the other, each in the area.
-fn write_cycles(year: u64, area: &mut [u8]) -> bool {
+fn write_cycles(rt: &(impl Input + Print + ErrorOutput), year: u64, area: &mut [u8]) -> bool {
     let mut frames: u64 = 0;
     let mut cycle: u64 = 0;
     loop {
-        let read = cycle_input::next_cycle(b"pcd-orbit", year, &mut *area, frames);
+        let read = cycle_input::next_cycle(rt, b"pcd-orbit", year, &mut *area, frames);
         if !read.whole {
             return !read.cut & !read.failed;
         }
-        if !records::show_cycle(area, year, cycle) {
+        if !records::show_cycle(rt, area, year, cycle) {
             return false;
         }
         frames = read.frames;

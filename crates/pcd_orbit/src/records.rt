@@ -1,6 +1,7 @@
 // The records of a cycle, each as its lines.
 ghost use Rattle.io.specs.Counts.{IsPrefixLen};
 
+use command::ErrorOutput;
 use orbit::attitude::Attitude;
 use orbit::clock::Clock;
 use orbit::ephemeris::Ephemeris;
@@ -14,21 +15,32 @@ const LINES: usize = 8192;
 const FRAMES: u64 = 4;
 
 // Writes the records of a cycle, first those of the whole cycle and then those of each major frame; true where all could be written.
-pub(crate) fn show_cycle(body: &[u8], year: u64, cycle: u64) -> bool {
+pub(crate) fn show_cycle(
+    rt: &(impl Print + ErrorOutput),
+    body: &[u8],
+    year: u64,
+    cycle: u64,
+) -> bool {
     let mut space = [0u8; LINES];
-    show_cycle_in(body, year, cycle, &mut space)
+    show_cycle_in(rt, body, year, cycle, &mut space)
 }
 
-fn show_cycle_in(body: &[u8], year: u64, cycle: u64, out: &mut [u8]) -> bool {
-    if !show_gyro_drift(body, year, cycle, &mut *out) {
+fn show_cycle_in(
+    rt: &(impl Print + ErrorOutput),
+    body: &[u8],
+    year: u64,
+    cycle: u64,
+    out: &mut [u8],
+) -> bool {
+    if !show_gyro_drift(rt, body, year, cycle, &mut *out) {
         return false;
     }
-    if !show_clock(body, year, cycle, &mut *out) {
+    if !show_clock(rt, body, year, cycle, &mut *out) {
         return false;
     }
     let mut frame: u64 = 0;
     while frame < FRAMES {
-        if !show_frame(body, year, cycle, frame, &mut *out) {
+        if !show_frame(rt, body, year, cycle, frame, &mut *out) {
             return false;
         }
         frame += 1;
@@ -36,21 +48,28 @@ fn show_cycle_in(body: &[u8], year: u64, cycle: u64, out: &mut [u8]) -> bool {
     true
 }
 
-fn show_frame(body: &[u8], year: u64, cycle: u64, frame: u64, out: &mut [u8]) -> bool {
-    if !show_ephemeris(body, year, cycle, frame, &mut *out) {
+fn show_frame(
+    rt: &(impl Print + ErrorOutput),
+    body: &[u8],
+    year: u64,
+    cycle: u64,
+    frame: u64,
+    out: &mut [u8],
+) -> bool {
+    if !show_ephemeris(rt, body, year, cycle, frame, &mut *out) {
         return false;
     }
-    if !show_attitude(body, year, cycle, frame, &mut *out) {
+    if !show_attitude(rt, body, year, cycle, frame, &mut *out) {
         return false;
     }
-    show_temperatures(body, year, cycle, frame, out)
+    show_temperatures(rt, body, year, cycle, frame, out)
 }
 
 // Writes the text that ends at `end`.
-fn show(out: &[u8], end: usize) -> bool
+fn show(rt: &(impl Print + ErrorOutput), out: &[u8], end: usize) -> bool
     requires { IsPrefixLen end out.now }
 {
-    command::show(b"pcd-orbit", &out[..end])
+    command::show(rt, b"pcd-orbit", &out[..end])
 }
 
 fn row_of(cycle: u64, frame: u64, year: u64, refusal: u8, instant: u64) -> Row {
@@ -63,11 +82,17 @@ fn row_of(cycle: u64, frame: u64, year: u64, refusal: u8, instant: u64) -> Row {
     }
 }
 
-fn show_gyro_drift(body: &[u8], year: u64, cycle: u64, out: &mut [u8]) -> bool {
+fn show_gyro_drift(
+    rt: &(impl Print + ErrorOutput),
+    body: &[u8],
+    year: u64,
+    cycle: u64,
+    out: &mut [u8],
+) -> bool {
     let drift = orbit::gyro_drift::read(body, year);
     let row = row_of(cycle, 0, year, drift.refusal, drift.instant);
     let end = put_drift(&mut *out, row, drift);
-    show(out, end)
+    show(rt, out, end)
 }
 
 fn put_drift(out: &mut [u8], row: Row, drift: GyroDrift) -> usize
@@ -78,11 +103,17 @@ fn put_drift(out: &mut [u8], row: Row, drift: GyroDrift) -> usize
     put_double_row(out, b, row, orbit_rows::GYRO_DRIFT + 2, drift.z)
 }
 
-fn show_clock(body: &[u8], year: u64, cycle: u64, out: &mut [u8]) -> bool {
+fn show_clock(
+    rt: &(impl Print + ErrorOutput),
+    body: &[u8],
+    year: u64,
+    cycle: u64,
+    out: &mut [u8],
+) -> bool {
     let clock = orbit::clock::read(body, year);
     let row = row_of(cycle, 0, year, clock.refusal, 0);
     let end = put_clock(&mut *out, row, clock);
-    show(out, end)
+    show(rt, out, end)
 }
 
 fn put_clock(out: &mut [u8], row: Row, clock: Clock) -> usize
@@ -105,11 +136,18 @@ fn count(n: u64) -> i64 {
     (n % 65_536) as i64
 }
 
-fn show_ephemeris(body: &[u8], year: u64, cycle: u64, frame: u64, out: &mut [u8]) -> bool {
+fn show_ephemeris(
+    rt: &(impl Print + ErrorOutput),
+    body: &[u8],
+    year: u64,
+    cycle: u64,
+    frame: u64,
+    out: &mut [u8],
+) -> bool {
     let ephemeris = orbit::ephemeris::read(body, year, frame);
     let row = row_of(cycle, frame, year, ephemeris.refusal, ephemeris.instant);
     let end = put_ephemeris(&mut *out, row, ephemeris);
-    show(out, end)
+    show(rt, out, end)
 }
 
 fn put_ephemeris(out: &mut [u8], row: Row, ephemeris: Ephemeris) -> usize
@@ -123,11 +161,18 @@ fn put_ephemeris(out: &mut [u8], row: Row, ephemeris: Ephemeris) -> usize
     put_double_row(out, e, row, orbit_rows::EPHEMERIS + 5, ephemeris.vz)
 }
 
-fn show_attitude(body: &[u8], year: u64, cycle: u64, frame: u64, out: &mut [u8]) -> bool {
+fn show_attitude(
+    rt: &(impl Print + ErrorOutput),
+    body: &[u8],
+    year: u64,
+    cycle: u64,
+    frame: u64,
+    out: &mut [u8],
+) -> bool {
     let attitude = orbit::attitude::read(body, year, frame);
     let row = row_of(cycle, frame, year, attitude.refusal, attitude.instant);
     let end = put_attitude(&mut *out, row, attitude);
-    show(out, end)
+    show(rt, out, end)
 }
 
 fn put_attitude(out: &mut [u8], row: Row, attitude: Attitude) -> usize
@@ -139,11 +184,18 @@ fn put_attitude(out: &mut [u8], row: Row, attitude: Attitude) -> usize
     put_integer_row(out, c, row, orbit_rows::ATTITUDE + 3, attitude.epa4)
 }
 
-fn show_temperatures(body: &[u8], year: u64, cycle: u64, frame: u64, out: &mut [u8]) -> bool {
+fn show_temperatures(
+    rt: &(impl Print + ErrorOutput),
+    body: &[u8],
+    year: u64,
+    cycle: u64,
+    frame: u64,
+    out: &mut [u8],
+) -> bool {
     let temperatures = orbit::temperatures::read(body, year, frame);
     let row = row_of(cycle, frame, year, temperatures.refusal, 0);
     let end = put_temperatures(&mut *out, row, temperatures);
-    show(out, end)
+    show(rt, out, end)
 }
 
 fn put_temperatures(out: &mut [u8], row: Row, temperatures: Temperatures) -> usize

@@ -1,7 +1,7 @@
 -- What reading standard input promises. No contract can name the bytes that a read brings; but whatever they are, the tally carried from read to
 -- read is what a list of calls leaves, handed on from a fresh tally of rule 1, whose joined bytes are all that was read. Definitions only.
-use Rattle.std.specs.Prelude.{◌≡◌, Bool, true, false, cond, List, [], ℕ, ◌+◌, ◌^◌, eqb, ltb, ℤ, pos, negsuc, length, take, replicate}
-use Rattle.io.specs.Counts.{clamp_len}
+use Rattle.std.specs.Prelude.{◌≡◌, Bool, true, false, cond, List, [], ℕ, ◌+◌, ◌^◌, eqb, ltb, length, take, replicate, Result, Ok, Err}
+use Rattle.std.specs.declared.io.Error.{Error}
 use Rattle.labelling.specs.declared.Tally.{Tally}
 use Rattle.labelling.specs.Machine.{fresh}
 use Rattle.labelling.specs.Calls.{Call, joined, Handed}
@@ -21,8 +21,9 @@ pub record ReadSoFar (n : ℕ) (t : Tally) (a : List ℕ) : Type 0 where
 -- ---- one read
 
 -- the bytes of the buffer that a read brought, by its answer
-abbrev pub brought : ℤ → List ℕ → List ℕ
-brought got buffer = take (clamp_len got (length buffer)) buffer
+abbrev pub brought : Result ℕ Error → List ℕ → List ℕ
+brought (Ok n) buffer = take n buffer
+brought (Err e) buffer = []
 
 -- whether these are too many after n bytes
 abbrev pub too_many : ℕ → List ℕ → Bool
@@ -33,9 +34,9 @@ abbrev pub taken_of : ℕ → List ℕ → List ℕ
 taken_of n piece = cond (too_many n piece) [] piece
 
 -- how reading stands after the answer of a read that brought these bytes
-abbrev pub input_after : ℤ → ℕ → List ℕ → Input
-input_after (negsuc k) n piece = Unreadable
-input_after (pos k) n piece = cond (eqb (length piece) 0) Ended (cond (too_many n piece) TooLong More)
+abbrev pub input_after : Result ℕ Error → ℕ → List ℕ → Input
+input_after (Err e) n piece = Unreadable
+input_after (Ok k) n piece = cond (eqb (length piece) 0) Ended (cond (too_many n piece) TooLong More)
 
 -- from the state s and the area old the bytes are taken that leave r and the area new: calls go on from what s carries
 pub record Carried (s : State) (bytes old : List ℕ) (r : State) (new : List ℕ) : Type 0 where
@@ -50,13 +51,13 @@ pub record FedPromise (s : State) (piece old : List ℕ) (r : State) (new : List
   pub carried : Carried s (taken_of s.read piece) old r new
 
 -- a read has answered `got`, and what it brought is fed
-pub record TookPromise (s : State) (got : ℤ) (buffer old : List ℕ) (r : State) (new : List ℕ) : Type 0 where
+pub record TookPromise (s : State) (got : Result ℕ Error) (buffer old : List ℕ) (r : State) (new : List ℕ) : Type 0 where
   pub input_is : r.input ≡ input_after got s.read (brought got buffer)
   pub carried : Carried s (taken_of s.read (brought got buffer)) old r new
 
 -- the same, whatever the read answered
 pub record TurnPromise (s : State) (buffer old : List ℕ) (r : State) (new : List ℕ) : Type 0 where
-  pub got : ℤ
+  pub got : Result ℕ Error
   pub took : TookPromise s got buffer old r new
 
 -- ---- all reads

@@ -1,10 +1,13 @@
 // Reads standard input to its end and writes the tally of its bytes. Where the input cannot be read to its end, has more than 2^40
 // bytes, or the tally cannot be written, a line on standard error says so, and no tally is written.
+#![tactic(auto)]
+
 ghost use Rattle.std.specs.Prelude.{◌≡◌};
+ghost use Rattle.std.specs.Io.{ReadsAtMost};
 ghost use Rattle.pcd_tally.specs.Reading.{blank, ReadSoFar, FedPromise, TookPromise, TurnPromise, TallyOf, is_more, AllPromise};
 
 use labelling::Tally;
-use libc::{STDERR_FILENO, STDIN_FILENO, STDOUT_FILENO};
+use std::io::Read;
 
 // The program keeps the vote by bytes.
 const RULE: u64 = 1;
@@ -26,27 +29,31 @@ struct State {
     input: Input,
 }
 
-fn main() {
-    let state = read_all();
+fn main(rt: HostRuntime) {
+    let state = read_all(&mut rt.stdin());
     let input = state.input;
     match input {
-        Input::Ended => report(state.tally, state.read),
-        Input::TooLong => complain(b"pcd_tally: standard input has more than 2^40 bytes\n"),
+        Input::Ended => report(&rt, state.tally, state.read),
+        Input::TooLong => complain(&rt, "pcd_tally: standard input has more than 2^40 bytes"),
         // There is never more: the reading goes on then.
-        Input::Unreadable | Input::More => complain(b"pcd_tally: standard input cannot be read\n"),
+        Input::Unreadable | Input::More => complain(
+            &rt,
+            "pcd_tally: standard input cannot be read",
+        ),
     }
 }
 
-fn complain(line: &[u8]) {
-    io::write_all(STDERR_FILENO, line);
+// Where standard error cannot be written, there is nothing left to say so on.
+fn complain(rt: &impl Eprint, line: &str) {
+    let _ = rt.eprintln(line);
 }
 
 // The tally of so many bytes.
-fn report(t: Tally, read: u64)
+fn report(rt: &(impl Print + Eprint), t: Tally, read: u64)
     requires { TallyOf read t }
 {
-    if !tally_text::show(STDOUT_FILENO, t) {
-        complain(b"pcd_tally: standard output cannot be written\n");
+    if !tally_text::show(rt, t) {
+        complain(rt, "pcd_tally: standard output cannot be written");
     }
 }
 
@@ -63,7 +70,7 @@ fn begun() -> State
 }
 
 // Each read but the last brings a byte or more, and the tally takes 2^40 at most: so the reading ends.
-fn read_all() -> State
+fn read_all(input: &mut impl Read) -> State
     ensures { AllPromise result }
 {
     let mut buffer_space = io::large_buffer();
@@ -72,7 +79,7 @@ fn read_all() -> State
     let area: &mut [u8] = &mut area_space;
     let mut state = begun();
     loop {
-        state = turn(state, &mut *buffer, &mut *area);
+        state = turn(state, &mut *input, &mut *buffer, &mut *area);
         let input = state.input;
         if !goes_on(input) {
             return state;
@@ -92,28 +99,28 @@ fn goes_on(input: Input) -> bool
 }
 
 // One read, and what it brought.
-fn turn(s: State, buffer: &mut [u8], area: &mut [u8]) -> State
+fn turn(s: State, input: &mut impl Read, buffer: &mut [u8], area: &mut [u8]) -> State
     requires { ReadSoFar s.read s.tally area.old }
     ensures { TurnPromise s buffer.new area.old result area.new }
 {
-    let got = libc::read(STDIN_FILENO, buffer);
+    let got = input.read(&mut *buffer);
     took(s, got, buffer, area)
 }
 
 // What a read brought that answered so.
-fn took(s: State, got: isize, buffer: &[u8], area: &mut [u8]) -> State
-    requires { ReadSoFar s.read s.tally area.old }
+fn took(s: State, got: std::io::Result<usize>, buffer: &[u8], area: &mut [u8]) -> State
+    requires reads { ReadsAtMost got buffer.now }
+    requires so_far { ReadSoFar s.read s.tally area.old }
     ensures { TookPromise s got buffer.now area.old result area.new }
 {
     let tally = s.tally;
-    if got < 0 {
+    let Ok(n) = got else {
         return State {
             tally: tally,
             read: s.read,
             input: Input::Unreadable,
         };
-    }
-    let n = io::count(got, buffer);
+    };
     if n == 0 {
         return State {
             tally: tally,

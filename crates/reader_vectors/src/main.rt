@@ -1,5 +1,7 @@
 // Reads the streams of standard input in pieces and writes what comes of each: what tests/reader_vectors.py makes, with the answers that it
 // worked out by other means.
+#![tactic(auto)]
+
 mod report;
 mod shifts;
 

@@ -2,30 +2,63 @@
 ghost use Rattle.std.specs.Prelude.{◌≡◌, false, ◌+◌, ◌≤◌, ◌<◌, take, drop};
 ghost use Rattle.reel_state.specs.Reading.{is_complete, Keeps};
 
-use libc::STDIN_FILENO;
+use command::ErrorOutput;
 use reel_state::{Advanced, Event, Reel};
+use std::io::{Error, Input, Read, Result};
+use std::rt::{Env, Files};
 
-// More bytes behind those that were not taken, which go to the front of the buffer; or the next file; or nothing follows.
-pub(crate) fn more(program: &[u8], reel: Reel, buffer: &mut [u8]) -> Advanced
-    ensures { Keeps reel result }
-{
-    if reel.fd < 0 {
-        return open_next(program, reel);
-    }
-    let kept = to_front(&mut *buffer, reel.at, reel.end);
-    // The name first: asking for it forgets the system's error.
-    let mut space = io::buffer();
-    let n = os::arg(argument(reel.file), &mut space);
-    let got = command::fill(reel.fd, &mut *buffer, kept);
-    tell(got.failed, program, &space[..n]);
-    filled(reel, got.length, got.failed, got.length < buffer.len())
+// What is open of a reel's files.
+#[derive(Drop)]
+pub enum Source<I, F> {
+    Nothing,
+    Input(I),
+    File(F),
 }
 
-// A line, where a read of this file has failed.
-fn tell(failed: bool, program: &[u8], path: &[u8]) {
-    if failed {
-        command::fail(program, path);
+impl<I: Read, F: Read> Read for Source<I, F> {
+    fn read(&mut self, buf: &mut [u8]) -> Result<usize> {
+        match self {
+            Source::Nothing => Ok(0),
+            Source::Input(input) => input.read(buf),
+            Source::File(file) => file.read(buf),
+        }
     }
+}
+
+// More bytes behind those that were not taken, which go to the front of the buffer; or the next file; or nothing follows.
+pub(crate) fn more<R: Env + Files + Input + ErrorOutput>(
+    rt: &R,
+    program: &[u8],
+    reel: Reel,
+    source: &mut Source<R::Reader, R::File>,
+    buffer: &mut [u8],
+) -> Advanced
+    ensures { Keeps reel result }
+{
+    if is_nothing(source) {
+        return open_next(rt, program, reel, source);
+    }
+    let kept = to_front(&mut *buffer, reel.at, reel.end);
+    let got = command::fill(&mut *source, &mut *buffer, kept);
+    if let Some(e) = got.failed {
+        tell(rt, program, argument(reel.file), e);
+    }
+    // A file that has ended is closed.
+    if got.length < buffer.len() {
+        *source = Source::Nothing;
+    }
+    filled(reel, got.length, got.failed.is_some())
+}
+
+fn is_nothing<I, F>(source: &Source<I, F>) -> bool {
+    matches!(source, Source::Nothing)
+}
+
+// A line: a read of the file that this argument names has failed.
+fn tell(rt: &(impl Env + ErrorOutput), program: &[u8], i: usize, error: Error) {
+    let mut space = io::buffer();
+    let n = command::argument(rt, i, &mut space);
+    command::fail(rt, program, &space[..n], error);
 }
 
 // The argument that names the open file.
@@ -37,29 +70,17 @@ fn argument(next: usize) -> usize {
 }
 
 // The buffer is filled as far as `end`.
-fn filled(reel: Reel, end: usize, failed: bool, ended: bool) -> Advanced
+fn filled(reel: Reel, end: usize, failed: bool) -> Advanced
     ensures { Keeps reel result }
 {
     let mut r = reel;
     r.at = 0;
     r.end = end;
     r.wants = false;
-    r.fd = still_open(reel.fd, ended);
     Advanced {
         event: filled_as(failed),
         reel: r,
     }
-}
-
-// The file that is open after so much, or a negative number; one that has ended is closed, but for standard input.
-fn still_open(fd: i32, ended: bool) -> i32 {
-    if !ended {
-        return fd;
-    }
-    if fd != STDIN_FILENO {
-        libc::close(fd);
-    }
-    -1
 }
 
 fn filled_as(failed: bool) -> Event
@@ -72,16 +93,20 @@ fn filled_as(failed: bool) -> Event
 }
 
 // Opens the next file. Where there is none, what is left in the buffer is the reel's end.
-fn open_next(program: &[u8], reel: Reel) -> Advanced
+fn open_next<R: Env + Files + Input + ErrorOutput>(
+    rt: &R,
+    program: &[u8],
+    reel: Reel,
+    source: &mut Source<R::Reader, R::File>,
+) -> Advanced
     ensures { Keeps reel result }
 {
     let mut r = reel;
-    if reel.file < os::arg_count() {
-        let fd = open(program, reel.file);
-        r.fd = fd;
+    if reel.file < command::argument_count(rt) {
+        *source = open(rt, program, reel.file);
         r.file = reel.file + 1;
         return Advanced {
-            event: opened_as(fd),
+            event: opened_as(is_nothing(source)),
             reel: r,
         };
     }
@@ -93,10 +118,10 @@ fn open_next(program: &[u8], reel: Reel) -> Advanced
     }
 }
 
-fn opened_as(fd: i32) -> Event
+fn opened_as(nothing: bool) -> Event
     ensures { is_complete result ≡ false }
 {
-    if fd < 0 {
+    if nothing {
         return Event::Unreadable;
     }
     Event::Onward
@@ -112,17 +137,20 @@ fn left_as(nothing: bool) -> Event
 }
 
 // Opens the file that an argument names; `-` is standard input. A line says where it cannot be opened.
-fn open(program: &[u8], i: usize) -> i32 {
+fn open<R: Env + Files + Input + ErrorOutput>(
+    rt: &R,
+    program: &[u8],
+    i: usize,
+) -> Source<R::Reader, R::File> {
     let mut space = io::buffer();
-    let n = os::arg(i, &mut space);
+    let n = command::argument(rt, i, &mut space);
     if (n == 1) & (space[0] == b'-') {
-        return STDIN_FILENO;
+        return Source::Input(rt.reader());
     }
-    let fd = os::open_read(&space[..n]);
-    if fd < 0 {
-        command::fail(program, &space[..n]);
+    match command::open(rt, program, &space[..n]) {
+        Some(file) => Source::File(file),
+        None => Source::Nothing,
     }
-    fd
 }
 
 // Moves the bytes from `at` to `end` to the front, and answers how many they are.

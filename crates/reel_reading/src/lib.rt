@@ -1,14 +1,20 @@
 // A reel from files, for programs: what comes next of it, one thing at a time. The files that the arguments name are read one after the other, as one
 // reel, locked on its frames' own sync or, strictly, by 01's rules alone.
+#![tactic(auto)]
+
 mod files;
 
 ghost use Rattle.std.specs.Prelude.{◌≡◌, true, List, ℕ, ◌+◌, ◌^◌, ◌≤◌, ◌<◌, length};
 ghost use Rattle.reel_state.specs.Reading.{StepPromise, Stands, AdvancePromise, blank};
 
+use command::ErrorOutput;
+pub use files::Source;
 use order::LIMIT;
 pub use reel_state::{Advanced, Event, Reel};
 use reel_state::{stepped, too_many};
 use relocking::{Feeder, Relocked, relock};
+use std::io::Input;
+use std::rt::{Env, Files};
 
 // The program keeps the vote by bytes.
 const RULE: u64 = 1;
@@ -30,7 +36,6 @@ pub fn begin(strict: bool, file: usize) -> Reel
         taken: 0,
         frames: 0,
         file: file,
-        fd: -1,
         at: 0,
         end: 0,
         wants: false,
@@ -55,18 +60,27 @@ pub fn change_duty(reel: Reel, operator: u64) -> Reel
     r
 }
 
-// What comes next; of the reel no byte at `cut` or beyond is taken. The same buffer and area are lent each time. Lines on standard error begin with the
+// What comes next; of the reel no byte at `cut` or beyond is taken. The same source, buffer and area are lent each time: at first
+// nothing is open. Lines on standard error begin with the
 // name of the program.
-pub fn advance(program: &[u8], reel: Reel, cut: u64, buffer: &mut [u8], area: &mut [u8]) -> Advanced
+pub fn advance<R: Env + Files + Input + ErrorOutput>(
+    rt: &R,
+    program: &[u8],
+    reel: Reel,
+    source: &mut Source<R::Reader, R::File>,
+    cut: u64,
+    buffer: &mut [u8],
+    area: &mut [u8],
+) -> Advanced
     ensures { AdvancePromise reel area.old result area.new }
 {
     let at = reel.at;
     let end = least(reel.end, buffer.len());
     if reel.wants {
-        return files::more(program, reel, buffer);
+        return files::more(rt, program, reel, source, buffer);
     }
     if end <= at {
-        return files::more(program, reel, buffer);
+        return files::more(rt, program, reel, source, buffer);
     }
     if cut <= reel.taken {
         return Advanced {

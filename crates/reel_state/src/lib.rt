@@ -1,4 +1,6 @@
 // Where the reading of a reel stands, and how a step on a piece of it changes that: a leaf for `reel_reading`.
+#![tactic(auto)]
+
 ghost use Rattle.std.specs.Prelude.{◌≡◌, true, false, ◌≤◌};
 ghost use Rattle.base.specs.Lists.{one};
 ghost use Rattle.reel_state.specs.Reading.{Room, SteppedPromise, is_complete, Keeps};
@@ -34,9 +36,8 @@ pub struct Reel {
     // How many bytes of the reel were taken, and how many major frames were complete.
     pub taken: u64,
     pub frames: u64,
-    // The argument that names the next file, and the file that is open; a negative number where none is.
+    // The argument that names the next file.
     pub file: usize,
-    pub fd: i32,
     // Where the bytes of the buffer begin that were not taken, and where they end.
     pub at: usize,
     pub end: usize,

@@ -1,5 +1,7 @@
 // Reads the simulated reels of standard input by steps that lock on a frame's own sync, and writes what comes of each: what tests/relock_vectors.py
 // makes, with the answers that it worked out by other means.
+#![tactic(auto)]
+
 mod report;
 
 ghost use Rattle.std.specs.Prelude.{◌≡◌, length};

@@ -1,64 +1,79 @@
 // Who is on duty from which byte of a reel on: a text with a line `BYTE OPERATOR` for each shift, by rising bytes.
+#![tactic(auto)]
+
 ghost use Rattle.std.specs.Prelude.{◌≤◌, length};
 ghost use Rattle.command.specs.Text.{Adds};
 ghost use Rattle.io.specs.Counts.{IsPrefixLen};
 ghost use Rattle.shifts.specs.Lines.{fault_text};
 
-use command::{Filled, Parsed, put, put_field};
+use command::{ErrorOutput, Parsed, put, put_field};
 use shift_line::{
     LIMIT, NO_OPERATOR, NOT_RISING, NOT_TWO_NUMBERS, Shift, TOO_FAR, shift_of, wrong,
 };
+use std::rt::Files;
 
 const LINE: usize = 256;
 
+// How many bytes the text of a file has, and whether it could not be used.
+#[derive(Clone, Copy)]
+pub struct Lines {
+    pub length: usize,
+    pub failed: bool,
+}
+
 // Reads the lines of a file; a line on standard error says where it cannot be read, is longer than the room, or has a line that is wrong.
-pub fn read(program: &[u8], path: &[u8], text: &mut [u8]) -> Filled
+pub fn read<R: Files + ErrorOutput>(rt: &R, program: &[u8], path: &[u8], text: &mut [u8]) -> Lines
     ensures { IsPrefixLen result.length text.new }
 {
-    let fd = os::open_read(path);
-    if fd < 0 {
-        command::fail(program, path);
-        return Filled {
+    let Some(mut file) = command::open(rt, program, path) else {
+        return Lines {
             length: 0,
             failed: true,
         };
-    }
-    let got = command::fill(fd, &mut *text, 0);
-    libc::close(fd);
+    };
+    let got = command::fill(&mut file, &mut *text, 0);
     let n = got.length;
     let fits = n < text.len();
-    let whole = check_file(program, path, &text[..n], fits, got.failed);
-    Filled {
+    let whole = check_file(rt, program, path, &text[..n], fits, got.failed.is_some());
+    Lines {
         length: n,
         failed: !whole,
     }
 }
 
-fn check_file(program: &[u8], path: &[u8], text: &[u8], fits: bool, failed: bool) -> bool {
+fn check_file(
+    rt: &impl ErrorOutput,
+    program: &[u8],
+    path: &[u8],
+    text: &[u8],
+    fits: bool,
+    failed: bool,
+) -> bool {
     if failed {
-        command::say(program, path, b"the file cannot be read");
+        command::say(rt, program, path, b"the file cannot be read");
         return false;
     }
     if !fits {
         command::say(
+            rt,
             program,
             path,
             b"the file is longer than its room of 65,535 bytes",
         );
         return false;
     }
-    check(program, path, text)
+    check(rt, program, path, text)
 }
 
 // Whether each line is right; the first that is not is told.
-fn check(program: &[u8], path: &[u8], text: &[u8]) -> bool {
+fn check(rt: &impl ErrorOutput, program: &[u8], path: &[u8], text: &[u8]) -> bool {
     let n = line_count(text);
     let mut least: u64 = 0;
     let mut k: usize = 0;
     while k < n {
         let s = parse(command::line(text, k), least);
         if s.fault != 0 {
-            say_fault(program, path, k, s.fault);
+            say_fault(rt, program, path, k, s.fault);
             return false;
         }
         least = after(s.begin);
@@ -157,20 +172,21 @@ fn blank_at(line: &[u8]) -> usize
     i
 }
 
-fn say_fault(program: &[u8], path: &[u8], k: usize, fault: u8) {
+fn say_fault(rt: &impl ErrorOutput, program: &[u8], path: &[u8], k: usize, fault: u8) {
     if fault == NO_OPERATOR {
-        say_line(program, path, k, b"there is no such operator: 0 to 7");
+        say_line(rt, program, path, k, b"there is no such operator: 0 to 7");
         return;
     }
     if fault == NOT_RISING {
-        say_line(program, path, k, b"the bytes do not rise");
+        say_line(rt, program, path, k, b"the bytes do not rise");
         return;
     }
     if fault == TOO_FAR {
-        say_line(program, path, k, b"the byte is beyond 2^40");
+        say_line(rt, program, path, k, b"the byte is beyond 2^40");
         return;
     }
     say_line(
+        rt,
         program,
         path,
         k,
@@ -179,14 +195,21 @@ fn say_fault(program: &[u8], path: &[u8], k: usize, fault: u8) {
 }
 
 // Lines are counted from 1, and the room has no more than 65,535.
-fn say_line(program: &[u8], path: &[u8], k: usize, words: &[u8]) {
+fn say_line(rt: &impl ErrorOutput, program: &[u8], path: &[u8], k: usize, words: &[u8]) {
     let mut space = [0u8; LINE];
-    say_in(&mut space, program, path, k as u64 % 65536 + 1, words);
+    say_in(rt, &mut space, program, path, k as u64 % 65536 + 1, words);
 }
 
-fn say_in(text: &mut [u8], program: &[u8], path: &[u8], k: u64, words: &[u8]) {
+fn say_in(
+    rt: &impl ErrorOutput,
+    text: &mut [u8],
+    program: &[u8],
+    path: &[u8],
+    k: u64,
+    words: &[u8],
+) {
     let n = put_fault(&mut *text, k, words);
-    command::say(program, path, &text[..n]);
+    command::say(rt, program, path, &text[..n]);
 }
 
 fn put_fault(text: &mut [u8], k: u64, words: &[u8]) -> usize

@@ -1,5 +1,7 @@
 // Runs word 72's entries on the records of standard input and writes a line for each answer: what tests/word72_vectors.py makes, with
 // the answers that it worked out by other means.
+#![tactic(auto)]
+
 use subcom::{ColumnKind, Description, EightFlags, Form, Item, ItemCount, Reading};
 use vectors::{field, filled, number, put, put_bytes, put_number, put_refusal};
 

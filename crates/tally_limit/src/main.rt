@@ -5,6 +5,8 @@
 // A record: numbers of 8 bytes, which are the call, whether the tally that comes back is kept, whether the call is on the record's own tally or on
 // the one that was kept last, the lengths of the line and of the piece, the room of the area or the operator or the rule, and the 33 of the tally;
 // its frame (128 bytes); which numbers the line has (16 bytes); the line (160 bytes), in which each '#' stands for the next number; the piece (16 bytes).
+#![tactic(auto)]
+
 mod call;
 mod show;
 mod tally;

@@ -1,5 +1,7 @@
 // Runs the entries over VCDU headers on the records of standard input and writes a line for each: what tests/vcdu_vectors.py makes, with the
 // answers that it worked out by other means.
+#![tactic(auto)]
+
 mod sweep;
 
 use vcdu_header::{Checked, Repaired};

@@ -1,4 +1,6 @@
 // What the programs that run outside vectors share: the bytes of standard input, the fields that they write, and sums over bytes.
+#![tactic(auto)]
+
 mod input;
 mod print;
 mod sums;

@@ -1,71 +1,72 @@
 // What the programs write: text, numbers, bytes, and the lines that more than one of them has.
-use libc::STDOUT_FILENO;
+use std::io;
 
-pub fn put(text: &[u8]) {
-    io::write_all(STDOUT_FILENO, text);
+pub fn put(rt: &impl Print, text: &[u8]) -> io::Result<()> {
+    rt.write_all(text)
 }
 
-pub fn put_number(n: u64) {
-    io::print_decimal(STDOUT_FILENO, n);
+pub fn put_number(rt: &impl Print, n: u64) -> io::Result<()> {
+    rt.print(n)
 }
 
 // A number after its name.
-pub fn field(name: &[u8], n: u64) {
-    put(name);
-    put_number(n);
+pub fn field(rt: &impl Print, name: &[u8], n: u64) -> io::Result<()> {
+    put(rt, name)?;
+    put_number(rt, n)
 }
 
 // Text in which each '#' stands for the next of the numbers.
-pub fn fields(form: &[u8], numbers: &[u64]) {
+pub fn fields(rt: &impl Print, form: &[u8], numbers: &[u64]) -> io::Result<()> {
     let mut written: usize = 0;
     let mut i: usize = 0;
     while i < form.len() {
-        written = put_next(form[i], numbers, written);
+        written = put_next(rt, form[i], numbers, written)?;
         i += 1;
     }
+    Ok(())
 }
 
 // A byte of such a text, before which so many numbers were written; the answer is how many are then.
-fn put_next(b: u8, numbers: &[u64], written: usize) -> usize {
+fn put_next(rt: &impl Print, b: u8, numbers: &[u64], written: usize) -> io::Result<usize> {
     if b != b'#' {
         let text = [b];
-        put(&text);
-        return written;
+        put(rt, &text)?;
+        return Ok(written);
     }
     if written < numbers.len() {
-        put_number(numbers[written]);
-        return written + 1;
+        put_number(rt, numbers[written])?;
+        return Ok(written + 1);
     }
-    written
+    Ok(written)
 }
 
-pub fn put_bytes(bytes: &[u8]) {
+pub fn put_bytes(rt: &impl Print, bytes: &[u8]) -> io::Result<()> {
     let mut i: usize = 0;
     while i < bytes.len() {
-        put_byte(bytes[i]);
+        put_byte(rt, bytes[i])?;
         i += 1;
     }
+    Ok(())
 }
 
-pub fn put_byte(b: u8) {
-    io::print_hex(STDOUT_FILENO, b as u64, 2);
+pub fn put_byte(rt: &impl Print, b: u8) -> io::Result<()> {
+    print!(rt; "{b:02x}")
 }
 
-pub fn put_refusal(number: u8) {
-    field(b"refused ", number as u64);
-    put(b"\n");
+pub fn put_refusal(rt: &impl Print, number: u8) -> io::Result<()> {
+    field(rt, b"refused ", number as u64)?;
+    put(rt, b"\n")
 }
 
-pub fn put_time(spacecraft: u64, instant: u64) {
-    field(b"time ", spacecraft);
-    field(b" ", instant);
-    put(b"\n");
+pub fn put_time(rt: &impl Print, spacecraft: u64, instant: u64) -> io::Result<()> {
+    field(rt, b"time ", spacecraft)?;
+    field(rt, b" ", instant)?;
+    put(rt, b"\n")
 }
 
-pub fn put_double(x: f64) {
-    put(b"number ");
-    io::print_hex(STDOUT_FILENO, bits(x), 16);
-    put(b"\n");
+pub fn put_double(rt: &impl Print, x: f64) -> io::Result<()> {
+    let all = bits(x);
+    println!(rt; "number {all:016x}")
 }
 
 // The bits of a double; all ones for a NaN, which no reading gives.

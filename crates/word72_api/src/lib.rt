@@ -1,5 +1,7 @@
 // Word 72 and its codecs for programs in other languages. `word72_api_c` exports these entries, and
 // include/pcd.h declares them for C.
+#![tactic(auto)]
+
 mod codecs;
 mod word72;
 

@@ -1,5 +1,7 @@
 // Does what the records of standard input ask for: a call of the writer, or a reel that is written and read back in pieces.
 // tests/writer_vectors.py makes the records, with the answers that it worked out by other means.
+#![tactic(auto)]
+
 mod reel;
 mod report;
 mod single;

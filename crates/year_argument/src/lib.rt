@@ -1,21 +1,24 @@
 // The year that an argument of a program names.
+#![tactic(auto)]
+
 ghost use Rattle.std.specs.Prelude.{◌≡◌};
 ghost use Rattle.year_argument.specs.Years.{YearPromise, year_in};
 
-use command::Parsed;
+use command::{ErrorOutput, Parsed};
+use std::rt::Env;
 
 const WORD: usize = 64;
 
 // The year of an argument, 0 where it names none of 1999 to 2099; a line says so then.
-pub fn year_at(program: &[u8], i: usize) -> u64
+pub fn year_at(rt: &(impl Env + ErrorOutput), program: &[u8], i: usize) -> u64
     ensures { YearPromise result }
 {
     let mut word = [0u8; WORD];
-    let n = os::arg(i, &mut word);
-    year_in(program, &word[..n])
+    let n = command::argument(rt, i, &mut word);
+    year_in(rt, program, &word[..n])
 }
 
-fn year_in(program: &[u8], word: &[u8]) -> u64
+fn year_in(rt: &impl ErrorOutput, program: &[u8], word: &[u8]) -> u64
     ensures { result ≡ year_in word.now }
 {
     match command::number(word) {
@@ -23,18 +26,19 @@ fn year_in(program: &[u8], word: &[u8]) -> u64
             if time_code::year::in_span(year) {
                 return year;
             }
-            say_no_year(program, word);
+            say_no_year(rt, program, word);
             return 0;
         }
         Parsed::NotANumber => {
-            say_no_year(program, word);
+            say_no_year(rt, program, word);
             return 0;
         }
     }
 }
 
-fn say_no_year(program: &[u8], word: &[u8]) {
+fn say_no_year(rt: &impl ErrorOutput, program: &[u8], word: &[u8]) {
     command::say(
+        rt,
         program,
         word,
         b"not a year: a number from 1999 to 2099 is asked for",
