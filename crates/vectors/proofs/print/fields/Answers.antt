@@ -1,6 +1,4 @@
-use Prim.Native.Nat.{◌≤◌, ◌-◌}
 use native.Mathlib.Omega.{arith}
-use lib.ListN.{length}
 use Rattle.vectors.proofs.print.fields.Goals as goal
 
 pub loop-i-init : goal.loop-i-init

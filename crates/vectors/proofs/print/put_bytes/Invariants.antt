@@ -1,6 +1,5 @@
 -- `vectors::print::put_bytes` is safe and ends: the index stays within the slice, and what is left of it falls. Assumes nothing.
 use Prim.Native.Nat.{◌≤◌, ◌-◌}
-use native.Mathlib.Omega.{arith}
 use lib.ListN.{length}
 use Rattle.vectors.proofs.print.put_bytes.Given as goal
 

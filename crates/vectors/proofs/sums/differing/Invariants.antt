@@ -1,10 +1,9 @@
 -- `vectors::sums::differing` meets its contract: what is counted and what is left to count come to the count of all. Assumes nothing.
 use mathlib.Core.List.{List}
-use Prim.Native.Nat.{ℕ, ◌≤◌, ◌-◌}
-use native.Mathlib.Omega.{arith}
+use Prim.Native.Nat.{ℕ, ◌-◌}
 use lib.ListN.{length, drop}
 use Rattle.vectors.specs.Folds.{differ}
-use Rattle.vectors.proofs.Folding.{Counted, one_at_most, counted_step, differ-step, differ-end}
+use Rattle.vectors.proofs.Folding.{Counted}
 use Rattle.vectors.proofs.sums.differing.Given as goal
 
 abbrev left : List ℕ → List ℕ → ℕ → ℕ

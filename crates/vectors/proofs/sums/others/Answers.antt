@@ -1,11 +1,11 @@
 use mathlib.Core.Bool.{Bool}
 use mathlib.Core.List.{List}
-use Prim.Native.Nat.{ℕ, ◌≤◌, ◌-◌}
+use Prim.Native.Nat.{ℕ, ◌≤◌}
 use native.Mathlib.Omega.{arith}
-use lib.ListN.{length, get_or, drop}
+use lib.ListN.{get_or, drop}
 use Rattle.base.specs.Lists.{count_by}
 use Rattle.vectors.specs.Folds.{is_other}
-use Rattle.vectors.proofs.Folding.{Counted, one_at_most, counted_step, count-step, count-end}
+use Rattle.vectors.proofs.Folding.{one_at_most, counted_step, count-step, count-end}
 use Rattle.vectors.proofs.sums.others.Goals as goal
 use Rattle.vectors.proofs.sums.others.Goals.{After-bit-n}
 
@@ -14,7 +14,7 @@ left b bytes i = count_by (is_other b) (drop i bytes)
 
 -- whether the byte of this turn is another one
 abbrev now-other : After-bit-n → Bool
-now-other c = let w = c.before.before.before in is_other w.before.before.args.b (get_or w.before.before.args.bytes.now w.loop.i 0)
+now-other c = is_other c.args.b (get_or c.args.bytes.now c.loop-i.i 0)
 
 pub loop-i-init : goal.loop-i-init
 loop-i-init c = (omega arith, omega arith, omega arith)

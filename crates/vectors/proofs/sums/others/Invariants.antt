@@ -1,12 +1,10 @@
 -- `vectors::sums::others` meets its contract: what is counted and what is left to count come to the count of all. Assumes nothing.
-use mathlib.Core.Bool.{Bool}
 use mathlib.Core.List.{List}
-use Prim.Native.Nat.{ℕ, ◌≤◌, ◌-◌}
-use native.Mathlib.Omega.{arith}
-use lib.ListN.{length, get_or, drop}
+use Prim.Native.Nat.{ℕ, ◌-◌}
+use lib.ListN.{length, drop}
 use Rattle.base.specs.Lists.{count_by}
 use Rattle.vectors.specs.Folds.{is_other}
-use Rattle.vectors.proofs.Folding.{Counted, one_at_most, counted_step, count-step, count-end}
+use Rattle.vectors.proofs.Folding.{Counted}
 use Rattle.vectors.proofs.sums.others.Given as goal
 
 abbrev left : ℕ → List ℕ → ℕ → ℕ
