@@ -1,7 +1,5 @@
-use Prim.Native.Nat.{◌-◌}
 use mathlib.Core.Path.{refl}
-use lib.ListN.{length}
-use Rattle.command.proofs.FileLaws.{Kept, same_size, fits, kept_on, kept-done, kept_full}
+use Rattle.command.proofs.FileLaws.{same_size, fits, kept_on, kept-done, kept_full}
 use native.Mathlib.Omega.{arith}
 use Rattle.command.proofs.files.fill.Goals as goal
 
