@@ -12,16 +12,16 @@ use Rattle.tally_text.proofs.with_line.Goals.{After-with-a}
 -- the name is added, and the digits are there
 module _ (c : After-with-a) where
   abbrev out : List ℕ
-  out = c.decimal-k.new.1.0
+  out = c.decimal-k.new.out
 
   abbrev k : ℕ
   k = c.decimal-k.result
 
   short : k ≤ 20
-  short = twenty c.args.n k c.fits.n.fits c.decimal-k.ensures.1.0
+  short = twenty c.args.n k c.ranges.n.fits c.decimal-k.ensures.len
 
   front : length (take k out) ≡ k
-  front = length-take-le k out c.decimal-k.ensures.0.0
+  front = length-take-le k out c.decimal-k.ensures.in_bounds.0
 
 pub with-b-requires : goal.with-b-requires
 with-b-requires c =
@@ -36,4 +36,4 @@ with_byte-requires c =
 pub returns : goal.returns
 returns c =
     let d = c.decimal-k.ensures in
-    lined _ _ _ _ d.1.0 (short (goal.at.returns c).After-with-a) d.0.0 d.1.1 c.with-a.ensures c.with-b.ensures c.with_byte.ensures
+    lined _ _ _ _ d.len (short (goal.at.returns c).After-with-a) d.in_bounds.0 d.digits c.with-a.ensures c.with-b.ensures c.with_byte.ensures
