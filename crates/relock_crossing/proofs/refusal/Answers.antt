@@ -6,7 +6,7 @@ use native.Mathlib.Omega.{arith}
 use lib.ListN.{get_or}
 use Rattle.labelling.proofs.Ordered.{bytes_within}
 use Rattle.relocking.specs.Relock.{feeder_in_order}
-use Rattle.relocking.proofs.Relocking.{in_order, wrong-area, too_long, accepted-by}
+use Rattle.relocking.proofs.Relocking.{feeder_ordered, wrong-area, too_long, accepted-by}
 use Rattle.in_place.proofs.Laws.{both}
 use Rattle.relock_crossing.specs.Relocking.{is_feeder, feeder_of}
 use Rattle.relock_crossing.proofs.Steps.{order_refused, line}
@@ -20,7 +20,7 @@ module _ (c : Else-not-in_order) where
   order = both _ _ (sym c.in_order.ensures ∙ c.if-not-in_order.false)
 
   within : get_or c.args.n.now 0 0 ≤ 2 ^ 40
-  within = bytes_within _ (in_order _ order.1).in_tally
+  within = bytes_within _ (feeder_ordered _ order.1).in_tally
 
 pub returns-then-not-in_order : goal.returns-then-not-in_order
 returns-then-not-in_order c = sym (order_refused _ _ _ _ _ (sym c.in_order.ensures ∙ c.if-not-in_order.true))

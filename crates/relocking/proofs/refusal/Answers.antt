@@ -5,7 +5,7 @@ use Prim.Native.Nat.{◌≤◌, ◌^◌}
 use native.Mathlib.Omega.{arith}
 use Rattle.labelling.proofs.Ordered.{bytes_within}
 use Rattle.relocking.specs.Relock.{feeder_in_order}
-use Rattle.relocking.proofs.Relocking.{in_order, not_in_order, wrong-area, too_long, accepted-by}
+use Rattle.relocking.proofs.Relocking.{feeder_ordered, not_in_order, wrong-area, too_long, accepted-by}
 use Rattle.relocking.proofs.refusal.Goals as goal
 use Rattle.relocking.proofs.refusal.Goals.{Else-not-in_order}
 
@@ -19,7 +19,7 @@ module _ (c : Else-not-in_order) where
   order = sym c.in_order.ensures ∙ c.if-not-in_order.false
 
   within : c.args.f.tally.groups.bytes ≤ 2 ^ 40
-  within = bytes_within c.args.f.tally (in_order c.args.f order).in_tally
+  within = bytes_within c.args.f.tally (feeder_ordered c.args.f order).in_tally
 
 pub returns-then-area-ne-MAJOR_FRAME : goal.returns-then-area-ne-MAJOR_FRAME
 returns-then-area-ne-MAJOR_FRAME c = sym (wrong-area _ _ _ (order (goal.at.returns-then-area-ne-MAJOR_FRAME c).Else-not-in_order) c.if-area-ne-MAJOR_FRAME.true)
