@@ -3,7 +3,6 @@
 #![tactic(auto)]
 
 ghost use Rattle.std.specs.Prelude.{◌≡◌};
-ghost use Rattle.std.specs.Io.{ReadsAtMost};
 ghost use Rattle.pcd_tally.specs.Reading.{blank, ReadSoFar, FedPromise, TookPromise, TurnPromise, TallyOf, is_more, AllPromise};
 
 use labelling::Tally;
@@ -109,8 +108,7 @@ fn turn(s: State, input: &mut impl Read, buffer: &mut [u8], area: &mut [u8]) -> 
 
 // What a read brought that answered so.
 fn took(s: State, got: std::io::Result<usize>, buffer: &[u8], area: &mut [u8]) -> State
-    requires reads { ReadsAtMost got buffer.now }
-    requires so_far { ReadSoFar s.read s.tally area.old }
+    requires { ReadSoFar s.read s.tally area.old }
     ensures { TookPromise s got buffer.now area.old result area.new }
 {
     let tally = s.tally;
@@ -121,6 +119,7 @@ fn took(s: State, got: std::io::Result<usize>, buffer: &[u8], area: &mut [u8]) -
             input: Input::Unreadable,
         };
     };
+    let n = n.min(buffer.len());
     if n == 0 {
         return State {
             tally: tally,
