@@ -6,8 +6,7 @@ use native.Mathlib.Omega.{arith}
 use lib.ListN.{length, drop, length-drop}
 use lib.Seq.{take_all}
 use Rattle.relocking.specs.Relock.{RelockPromise}
-use Rattle.whole_reel.specs.Whole.{Begins}
-use Rattle.whole_reel.proofs.ReadingReels.{ReadSoFar, read-begins, leads_on, stays_in, at_most_one, reads_more, read-ends}
+use Rattle.whole_reel.proofs.ReadingReels.{read-begins, leads_on, stays_in, at_most_one, reads_more, read-ends}
 use Rattle.whole_reel.proofs.read_all.Goals as goal
 use Rattle.whole_reel.proofs.read_all.Goals.{After-relock-r}
 
@@ -24,16 +23,16 @@ module _ (w : After-relock-r) where
   abbrev at : ℕ
   at = w.loop-at.at
 
-  promised : RelockPromise w.loop-at.f (drop at stream) true w.loop-at.area w.relock-r.result w.relock-r.last.1.1.1.0
+  promised : RelockPromise w.loop-at.f (drop at stream) true w.loop-at.area w.relock-r.result w.relock-r.new.area
   promised =
-      subst (λ (l : List ℕ). RelockPromise w.loop-at.f l true w.loop-at.area w.relock-r.result w.relock-r.last.1.1.1.0)
+      subst (λ (l : List ℕ). RelockPromise w.loop-at.f l true w.loop-at.area w.relock-r.result w.relock-r.new.area)
       (take_all (length stream - at) (drop at stream) (omega (arith, length-drop at stream))) w.relock-r.ensures
 
   further : 0 < w.relock-r.result.taken
-  further = leads_on _ _ _ _ _ _ w.loop-at.invariant.1 w.loop-at-test.taken w.relock-r.result _ promised
+  further = leads_on _ _ _ _ _ _ w.loop-at.invariant.1 w.loop-at-test.true w.relock-r.result _ promised
 
   inside : at + w.relock-r.result.taken ≤ length stream
-  inside = stays_in _ _ _ _ _ _ w.loop-at.invariant.1 w.loop-at-test.taken w.relock-r.result _ promised
+  inside = stays_in _ _ _ _ _ _ w.loop-at.invariant.1 w.loop-at-test.true w.relock-r.result _ promised
 
 pub overflow_add-at : goal.overflow_add-at
 overflow_add-at c =
@@ -52,8 +51,7 @@ loop-at-smaller c =
 pub loop-at-preserved : goal.loop-at-preserved
 loop-at-preserved c =
     let i = c.loop-at.invariant in
-    let same = c.relock-r.auto.1.1.1.0 in
-    (i.0, reads_more _ _ _ _ _ _ i.1 c.loop-at-test.true c.relock-r.result _ (promised (goal.at.loop-at-preserved c).After-relock-r) c.number-paid.result c.number-paid.ensures same)
+    (i.0, reads_more _ _ _ _ _ _ i.1 c.loop-at-test.true c.relock-r.result _ (promised (goal.at.loop-at-preserved c).After-relock-r) c.number-paid.result c.number-paid.ensures c.relock-r.auto.area)
 
 pub shape_of-area : goal.shape_of-area
 shape_of-area c = c.loop-at.invariant.1.kept
