@@ -52,7 +52,7 @@ pub returns : goal.returns
 returns c =
     let p = (goal.at.returns c).After-put in
     let v = c.vote-told.ensures in
-    let voted = v.voted (omega (arith, c.if-told-ne0.false)) in
+    let voted = v.voted (omega arith) in
     let in_use = enough p in (
       record {
         kept = λ i q f k.
