@@ -1,30 +1,22 @@
 -- What a step in place promises, said of what crosses; and its calls, as those of `relocking`. Assumes nothing.
 use mathlib.Core.Path.{◌≡◌, refl, sym, ap, ◌∙◌}
-use mathlib.Core.Bool.{Bool, true, false, not, ◌&&◌, ◌||◌, true≢false}
+use mathlib.Core.Bool.{Bool, true, ◌||◌}
 use mathlib.Core.List.{List, [], ◌∷◌}
-use Prim.Native.Nat.{ℕ, ◌+◌, ◌/◌, ◌^◌, ◌≤◌}
-use native.Mathlib.Omega.{arith}
-use lib.Dec.{eqb, ltb}
-use lib.ListN.{length, get_or}
-use borrow.Author.Tests.{eqb-true, eqb-false, ne_eqb}
-use Rattle.base.specs.Format.{major_frame}
+use Prim.Native.Nat.{ℕ}
+use borrow.Author.Tests.{ne_eqb}
 use Rattle.base.specs.Lists.{one}
-use Rattle.labelling.specs.declared.Tally.{Tally}
-use Rattle.labelling.specs.Order.{in_order}
 use Rattle.labelling.specs.Calls.{TakeCall, take_refusal, answer}
-use Rattle.labelling.proofs.CallLaws.{not_in_order, wrong-area, no_refusal}
 use Rattle.own_sync.specs.Locks.{to_lock}
 use Rattle.own_sync.specs.Relocking.{locked}
 use Rattle.relocking.specs.declared.Feeder.{Feeder}
 use Rattle.relocking.specs.declared.Relocked.{Relocked}
-use Rattle.relocking.specs.Relock.{Move, move, moved, area_moved, feeder_in_order, relock_refusal, ReadsOn, RelockPromise}
-use Rattle.relocking.proofs.Relocking.{not_in_order as feeder-not-in-order, wrong-area as step-wrong-area, accepted-by, order_of, locked-so, called-so}
-use Rattle.relocking.proofs.Moves.{reads_all}
-use Rattle.tally_numbers.specs.Numbers.{is_tally, tally_of, numbers_of}
+use Rattle.relocking.specs.Relock.{Move, move, moved, area_moved, ReadsOn, RelockPromise}
+use Rattle.relocking.proofs.Relocking.{locked-so, called-so}
+use Rattle.tally_numbers.specs.Numbers.{is_tally, tally_of}
 use Rattle.in_place.specs.declared.Locked.{Locked}
 use Rattle.in_place.specs.Places.{call_in, locked_of, LockedInPlace}
 use Rattle.relock_crossing.specs.declared.Step.{Step}
-use Rattle.relock_crossing.specs.Relocking.{is_feeder, feeder_of, LentFeeder, lent_feeder, feeder_in, refused_by, relock_refused, step_written, relock_leaves}
+use Rattle.relock_crossing.specs.Relocking.{LentFeeder, lent_feeder, feeder_in, relock_refused, step_written, relock_leaves}
 use Rattle.relock_crossing.specs.Relocking.{RelockCrossed, step_of, relocked_of, Moves, StepCrossed}
 
 module _ (l : LentFeeder) (piece : List ℕ) (ends : Bool) where

@@ -10,7 +10,7 @@ returns c =
     record {
       step_is = refl;
       holds = record {
-        numbers_is = written.0 ∙ ap numbers_of c.tally_of-t.ensures;
-        frame_is = written.1 ∙ ap (λ (t : Tally). t.frame) c.tally_of-t.ensures;
+        numbers_is = written.n_after ∙ ap numbers_of c.tally_of-t.ensures;
+        frame_is = written.frame_after ∙ ap (λ (t : Tally). t.frame) c.tally_of-t.ensures;
       };
     }

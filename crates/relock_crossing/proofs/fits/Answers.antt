@@ -1,5 +1,5 @@
 -- `relock_crossing::fits` meets its contract: each test is one of the two bounds, and far from the limit one is enough. Assumes nothing.
-use mathlib.Core.Path.{◌≡◌, sym, refl}
+use mathlib.Core.Path.{sym}
 use mathlib.Core.Bool.{true≢false}
 use Prim.Native.Nat.{◌*◌, ◌<◌, ◌^◌}
 use native.Mathlib.Omega.{arith}

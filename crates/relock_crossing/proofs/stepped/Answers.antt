@@ -7,10 +7,6 @@ use Rattle.in_place.proofs.Laws.{both}
 use Rattle.relocking.proofs.Moves.{reads_all}
 use Rattle.relock_crossing.proofs.Steps.{ready_none, step_reads, called-else, refused-so}
 use Rattle.relock_crossing.proofs.stepped.Goals as goal
-use Rattle.relock_crossing.proofs.stepped.Goals.{Start}
-
--- past the cheap test
-module _ (c : Start) where
 
 pub returns-then-awaits-fit : goal.returns-then-awaits-fit
 returns-then-awaits-fit c =
