@@ -1,10 +1,9 @@
 -- What is carried from frame to frame. Assumes nothing.
 use mathlib.Core.Path.{◌≡◌, sym, ◌∙◌}
-use mathlib.Core.Bool.{Bool, true, false}
-use mathlib.Core.List.{List, [], ◌++◌, append-nil}
+use mathlib.Core.Bool.{true, false}
+use mathlib.Core.List.{List}
 use Prim.Native.Nat.{ℕ, ◌<◌}
 use native.Mathlib.Omega.{arith}
-use Rattle.cycle.specs.Cycle.{is_cycle}
 use Rattle.cycle_frames.specs.declared.Brought.{Brought}
 use Rattle.cycle_frames.specs.Gathering.{Taken}
 use Rattle.cycle_frames.specs.Promise.{NextPromise}

@@ -1,5 +1,4 @@
 -- `cycle_input::put_frames` meets its contract: one part behind the other. Assumes nothing.
-use Prim.Native.Nat.{◌<◌, ◌≤◌}
 use borrow.Author.Tests.{le-leb, lt-leb}
 use Rattle.command.proofs.TextLaws.{adds_append}
 use Rattle.cycle_input.proofs.put_frames.Goals as goal
