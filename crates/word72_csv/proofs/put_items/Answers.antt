@@ -1,8 +1,5 @@
-use mathlib.Core.Path.{◌≡◌, refl, sym, ap, ◌∙◌}
-use Prim.Native.Nat.{ℕ, ◌≤◌, ◌-◌}
+use mathlib.Core.Path.{◌≡◌, ◌∙◌}
 use native.Mathlib.Omega.{arith}
-use Rattle.command.specs.Text.{Adds}
-use Rattle.word72_csv.specs.ItemLines.{item_lines}
 use Rattle.word72_csv.proofs.Laws.{no_items, one-item_more}
 use Rattle.word72_csv.proofs.put_items.Goals as goal
 

@@ -1,10 +1,7 @@
 -- `word72_csv::put_items` meets its contract: so many items are put as were passed. Assumes nothing.
-use mathlib.Core.Path.{◌≡◌, refl, sym, ap, ◌∙◌}
-use Prim.Native.Nat.{ℕ, ◌≤◌, ◌-◌}
-use native.Mathlib.Omega.{arith}
+use Prim.Native.Nat.{◌≤◌, ◌-◌}
 use Rattle.command.specs.Text.{Adds}
 use Rattle.word72_csv.specs.ItemLines.{item_lines}
-use Rattle.word72_csv.proofs.Laws.{no_items, one-item_more}
 use Rattle.word72_csv.proofs.put_items.Given as goal
 
 abbrev pub invariant-loop-item : goal.invariant-loop-item

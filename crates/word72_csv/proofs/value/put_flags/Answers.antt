@@ -1,5 +1,4 @@
 -- `word72_csv::value::put_flags` meets its contract: a digit for each bit. Assumes nothing.
-use mathlib.Core.Path.{sym}
 use Rattle.command.proofs.TextLaws.{adds_append}
 use Rattle.word72_csv.proofs.value.put_flags.Goals as goal
 

@@ -1,11 +1,7 @@
-use mathlib.Core.Path.{refl, ◌∙◌}
-use Prim.Native.Nat.{◌≤◌, ◌-◌}
+use mathlib.Core.Path.{◌∙◌}
 use native.Mathlib.Omega.{arith}
-use lib.ListN.{length, take}
 use lib.Seq.{take_all}
-use Rattle.command.specs.Text.{Adds}
 use Rattle.command.proofs.TextLaws.{adds_append}
-use Rattle.word72_csv.specs.Values.{hex_text}
 use Rattle.word72_csv.proofs.Laws.{hex_none, hex_one_more}
 use Rattle.word72_csv.proofs.value.put_hex.Goals as goal
 

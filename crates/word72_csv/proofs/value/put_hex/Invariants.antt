@@ -1,13 +1,8 @@
 -- `word72_csv::value::put_hex` meets its contract: so many bytes are put as were passed. Assumes nothing.
-use mathlib.Core.Path.{refl, ◌∙◌}
 use Prim.Native.Nat.{◌≤◌, ◌-◌}
-use native.Mathlib.Omega.{arith}
 use lib.ListN.{length, take}
-use lib.Seq.{take_all}
 use Rattle.command.specs.Text.{Adds}
-use Rattle.command.proofs.TextLaws.{adds_append}
 use Rattle.word72_csv.specs.Values.{hex_text}
-use Rattle.word72_csv.proofs.Laws.{hex_none, hex_one_more}
 use Rattle.word72_csv.proofs.value.put_hex.Given as goal
 
 abbrev pub invariant-loop-i : goal.invariant-loop-i
