@@ -1,5 +1,5 @@
 -- The verdict of a book (02, request 8) as a line of text. Definitions only.
-use Rattle.std.specs.Prelude.{Bool, true, false, cond, List, [], ◌∷◌, ◌++◌, ℕ, leb}
+use Rattle.std.specs.Prelude.{Bool, true, false, cond, List, ◌++◌, ℕ, leb}
 use Rattle.book_check.specs.declared.Verdict.{Verdict}
 use Rattle.book_check.specs.declared.Verdict.TheVariants.{Accepted, Faulty}
 use Rattle.command.specs.Text.{ascii, decimal}
