@@ -3,17 +3,20 @@ use lib.IntN.{ℤ}
 use mir.Syntax.{w64}
 use mir.Val.{to_z, of_z}
 use Rattle.orbit_vectors.proofs.Integers.{raised, sum_fits, sum-casts}
+use Rattle.orbit_vectors.proofs.put_integer.Given.{Over}
 use Rattle.orbit_vectors.proofs.put_integer.Goals as goal
-use Rattle.orbit_vectors.proofs.put_integer.Goals.{Else-x-ltminus2147483648, Start}
+use Rattle.orbit_vectors.proofs.put_integer.Goals.{Start}
 
 -- what is tested: x, read from its bits
-abbrev read : Start → ℤ
-read s = to_z w64 (of_z w64 s.args.x)
+abbrev read : (g : Over) → Start g → ℤ
+read g s = to_z w64 (of_z w64 s.args.x)
 
 pub overflow_add-x : goal.overflow_add-x
 overflow_add-x g c =
-    sum_fits (read (goal.at.overflow_add-x g c).Else-x-ltminus2147483648) (raised (read (goal.at.overflow_add-x g c).Else-x-ltminus2147483648) c.if-x-ltminus2147483648.false c.if-x-gt2147483647.false)
+    let x = read g (goal.at.overflow_add-x g c).Start in
+    sum_fits x (raised x c.if-x-ltminus2147483648.false c.if-x-gt2147483647.false)
 
 pub overflow_cast-x : goal.overflow_cast-x
 overflow_cast-x g c =
-    sum-casts (read (goal.at.overflow_cast-x g c).Else-x-ltminus2147483648) (raised (read (goal.at.overflow_cast-x g c).Else-x-ltminus2147483648) c.if-x-ltminus2147483648.false c.if-x-gt2147483647.false)
+    let x = read g (goal.at.overflow_cast-x g c).Start in
+    sum-casts x (raised x c.if-x-ltminus2147483648.false c.if-x-gt2147483647.false)
