@@ -2,13 +2,13 @@
 // on them in place. No number is cut: numbers that are no tally's are refused as a tally not in order is.
 #![tactic(auto)]
 
-mod duty;
 mod lock;
+mod operator;
 
 ghost use Rattle.crossing.specs.Crossing.{lent, TakeCrossed, FreshCrossed};
 
-pub use crate::duty::change_duty;
 pub use lock::take_to_lock;
+pub use operator::change_duty;
 use tally_numbers::{NUMBERS, flag, put_tally};
 
 // Writes a fresh tally of this rule. Returns the number of the refusal, 0 for none; after a refusal the fresh tally of rule 1 is written. What it

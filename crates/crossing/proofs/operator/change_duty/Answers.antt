@@ -9,8 +9,8 @@ use Rattle.labelling.specs.Order.{in_order}
 use Rattle.tally_numbers.specs.Numbers.{is_tally, tally_of}
 use Rattle.in_place.proofs.Laws.{both}
 use Rattle.crossing.proofs.Crossed.{duty_not_ordered, duty_no_operator, duty_changed}
-use Rattle.crossing.proofs.duty.change_duty.Goals as goal
-use Rattle.crossing.proofs.duty.change_duty.Goals.{Else-not-in_order}
+use Rattle.crossing.proofs.operator.change_duty.Goals as goal
+use Rattle.crossing.proofs.operator.change_duty.Goals.{Else-not-in_order}
 
 -- past the test of the order
 module _ (c : Else-not-in_order) where
