@@ -1,5 +1,5 @@
 -- The answer of a lookup (02, request 1) in a book as a line of text. Definitions only.
-use Rattle.std.specs.Prelude.{◌≡◌, List, ◌++◌, ℕ, ◌≤◌, length, take, get_or}
+use Rattle.std.specs.Prelude.{◌≡◌, List, ◌++◌, ℕ, take, get_or}
 use Rattle.base.specs.Ranges.{tabulate}
 use Rattle.book.specs.Layout.{cycles_said, instant_at}
 use Rattle.io.specs.Counts.{IsPrefixLen}

@@ -1,8 +1,7 @@
 use mathlib.Core.Path.{sym, ◌∙◌}
-use Prim.Native.Nat.{◌≤◌, ◌-◌}
 use native.Mathlib.Omega.{arith}
 use Rattle.book_parts.proofs.Held.{entered, instant-there}
-use Rattle.pcd_find.proofs.Laws.{cycles_are, few, Put, none-put, one_more, all-put}
+use Rattle.pcd_find.proofs.Laws.{cycles_are, few, none-put, one_more, all-put}
 use Rattle.pcd_find.proofs.answer.put_instants.Goals as goal
 
 pub loop-i-init : goal.loop-i-init
