@@ -2,8 +2,8 @@
 -- Assumes nothing.
 use mathlib.Core.Path.{◌≡◌, refl, sym, ap, ◌∙◌}
 use mathlib.Core.Bool.{Bool, true, false, cond}
-use mathlib.Core.List.{List, [], ◌∷◌, ◌++◌, append-nil}
-use Prim.Native.Nat.{ℕ, zero, suc, ◌+◌, ◌-◌, ◌^◌, ◌≤◌, ◌<◌}
+use mathlib.Core.List.{List, [], ◌∷◌, ◌++◌}
+use Prim.Native.Nat.{ℕ, zero, suc, ◌+◌, ◌-◌, ◌≤◌, ◌<◌}
 use native.Mathlib.Omega.{arith}
 use native.Mathlib.Numerals.{add-one}
 use lib.ListN.{length, take, drop, set, get_or, length-append, length-drop, length-set}
@@ -11,7 +11,7 @@ use lib.Seq.{length-take-le, take-suc, take-suc-set, get_or-set_other, get_or-dr
 use Rattle.base.specs.Lists.{one}
 use Rattle.labelling.specs.declared.Tally.{Tally}
 use Rattle.labelling.specs.Calls.{TakeCall, take_refusal, Answer, answer, taken, pays, DutyCall, duty_refusal, duty_answer, Call, takes, changes, joined, paid}
-use Rattle.labelling.specs.Calls.{Handed, done, changed}
+use Rattle.labelling.specs.Calls.{done, changed}
 use Rattle.labelling.specs.Machine.{fresh}
 use Rattle.labelling.specs.Once.{rule_given}
 use Rattle.labelling.proofs.Promised.{rule_known}

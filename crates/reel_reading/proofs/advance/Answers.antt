@@ -1,9 +1,6 @@
 -- `reel_reading::advance` meets its contract: more bytes come, or a step is made on those that there are, no further than the cut. Assumes nothing.
-use mathlib.Core.Path.{◌≡◌}
-use mathlib.Core.List.{List}
-use Prim.Native.Nat.{ℕ, ◌+◌, ◌-◌, ◌≤◌}
+use Prim.Native.Nat.{◌+◌, ◌-◌}
 use native.Mathlib.Omega.{arith}
-use lib.ListN.{length, take, drop}
 use Rattle.reel_reading.proofs.Laws.{keeps_advanced, cut_here, part_length}
 use Rattle.reel_reading.proofs.advance.Goals as goal
 
@@ -18,9 +15,9 @@ returns-then-cut-reel g c = cut_here _ _
 
 pub on_piece-requires : goal.on_piece-requires
 on_piece-requires g c =
-    let start = ended.before.before.before.before in
-    let buffer = start.args.buffer.now in
-    let at = start.args.reel.at in
+    let at = c.args.reel.at in
     let k = (at + c.within-n.result) - at in
-    let part = part_length at k buffer (omega (arith, c.within-n.ensures, c.least-end.ensures)) in
-    (omega (arith, part, c.within-n.ensures, c.least-end.ensures, start.well-formed), omega (arith, part, c.within-n.ensures, c.least-end.ensures, start.well-formed))
+    let part = part_length at k c.args.buffer.now (omega (arith, c.within-n.ensures, c.least-end.ensures)) in (
+      omega (arith, part, c.within-n.ensures, c.least-end.ensures, c.well_formed),
+      omega (arith, part, c.within-n.ensures, c.least-end.ensures, c.well_formed),
+    )

@@ -2,16 +2,12 @@
 use native.Mathlib.Omega.{arith}
 use Rattle.reel_reading.proofs.Laws.{advances, keeps_advanced}
 use Rattle.reel_reading.proofs.on_piece.Goals as goal
-use Rattle.reel_reading.proofs.on_piece.Goals.{After-step-s}
 
 pub returns-then-reel-gt-LIMIT : goal.returns-then-reel-gt-LIMIT
 returns-then-reel-gt-LIMIT c = keeps_advanced _ _ _ c.too_many.ensures
 
 pub returns-then-reel-gt-LIMIT-2 : goal.returns-then-reel-gt-LIMIT-2
 returns-then-reel-gt-LIMIT-2 c = keeps_advanced _ _ _ c.too_many-then-reel-gt-LIMIT-2.ensures
-
--- where a step was made
-module _ (made : After-step-s) where
 
 pub returns : goal.returns
 returns c =

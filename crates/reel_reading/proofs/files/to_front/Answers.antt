@@ -1,8 +1,6 @@
 use mathlib.Core.Path.{◌≡◌}
-use Prim.Native.Nat.{◌-◌, ◌≤◌}
 use native.Mathlib.Omega.{arith}
-use lib.ListN.{length}
-use Rattle.reel_reading.proofs.Laws.{Moved, moved_none, moved-one}
+use Rattle.reel_reading.proofs.Laws.{moved_none, moved-one}
 use Rattle.reel_reading.proofs.files.to_front.Goals as goal
 
 pub loop-i-init : goal.loop-i-init

@@ -1,9 +1,6 @@
 -- `reel_reading::files::to_front` meets its contract: so many bytes stand in front as were passed. Assumes nothing.
-use mathlib.Core.Path.{◌≡◌}
 use Prim.Native.Nat.{◌-◌, ◌≤◌}
-use native.Mathlib.Omega.{arith}
-use lib.ListN.{length}
-use Rattle.reel_reading.proofs.Laws.{Moved, moved_none, moved-one}
+use Rattle.reel_reading.proofs.Laws.{Moved}
 use Rattle.reel_reading.proofs.files.to_front.Given as goal
 
 abbrev pub invariant-loop-i : goal.invariant-loop-i
