@@ -7,11 +7,11 @@ use Prim.Native.Nat.{ℕ, ◌+◌, ◌-◌, ◌^◌, ◌≤◌, ◌<◌}
 use native.Mathlib.Omega.{arith}
 use lib.Dec.{eqb}
 use lib.ListN.{length, take, length-append, length-replicate}
-use lib.IntN.{ℤ, pos, negsuc}
 use lib.Seq.{take-length, length-take-le}
-use lib.Signed.{lt_z}
 use borrow.Author.Tests.{ltb-true, ltb-false, eqb-false, ne_eqb}
-use Rattle.io.specs.Counts.{clamp_len}
+use Rattle.std.specs.Prelude.{Result, Ok, Err, min}
+use Rattle.std.proofs.lemmas.List.{take_min}
+use Rattle.std.specs.declared.io.Error.{Error}
 use Rattle.labelling.specs.declared.Tally.{Tally}
 use Rattle.labelling.specs.Machine.{fresh}
 use Rattle.labelling.specs.Calls.{take_refusal, done}
@@ -122,28 +122,28 @@ none-taken n = go (too_many n [])
     go false = refl
 
 module _ (s : State) (buffer old : List ℕ) where
-  pub read-failed : (got : ℤ) → lt_z got (pos 0) ≡ true
+  pub read-failed : (got : Result ℕ Error) (e : Error) → got ≡ Err e
       → TookPromise s got buffer old (record { tally = s.tally; read = s.read; input = Unreadable }) old
-  read-failed (pos k) e = let never : k < 0 = ltb-true k 0 e in absurd (omega arith)
-  read-failed (negsuc k) e = record { input_is = refl; carried = rw (none-taken s.read) (carries_nothing s Unreadable old) }
+  read-failed got e is = rw is (record { input_is = refl; carried = rw (none-taken s.read) (carries_nothing s Unreadable old) })
 
-  pub read-ended : (got : ℤ) → lt_z got (pos 0) ≡ false → clamp_len got (length buffer) ≡ 0
-      → TookPromise s got buffer old (record { tally = s.tally; read = s.read; input = Ended }) old
-  read-ended (pos k) e z = record { input_is = rw z; carried = rw (z, none-taken s.read) (carries_nothing s Ended old) }
-  read-ended (negsuc k) e z = absurd (true≢false e)
+  -- what is brought ends with the buffer
+  module _ (got : Result ℕ Error) (k n : ℕ) (is : got ≡ Ok k) (counted : n ≡ min k (length buffer)) where
+    brought_is : take k buffer ≡ take n buffer
+    brought_is = rw counted (sym (take_min k buffer))
 
-  -- n bytes are brought
-  pub read_more : (got : ℤ) (n : ℕ) {r : State} {new : List ℕ} → lt_z got (pos 0) ≡ false → n ≡ clamp_len got (length buffer) → n ≤ length buffer
-      → (n ≡ 0 → ⊥) → FedPromise s (take n buffer) old r new → TookPromise s got buffer old r new
-  read_more (pos k) n e same within some p =
-      let whole : length (take n buffer) ≡ n = length-take-le n buffer within in
-      record { input_is = rw (← same) (p.input_is ∙ rw (whole, ne_eqb n 0 some)); carried = rw (← same) p.carried }
-  read_more (negsuc k) n e same within some p = absurd (true≢false e)
+    pub read-ended : n ≡ 0 → TookPromise s got buffer old (record { tally = s.tally; read = s.read; input = Ended }) old
+    read-ended z = rw is (record { input_is = rw (brought_is, z); carried = rw (brought_is, z, none-taken s.read) (carries_nothing s Ended old) })
+
+    -- n bytes are brought
+    pub read_more : {r : State} {new : List ℕ} → (n ≡ 0 → ⊥) → FedPromise s (take n buffer) old r new → TookPromise s got buffer old r new
+    read_more some p =
+        let whole : length (take n buffer) ≡ n = length-take-le n buffer (omega (arith, counted)) in
+        rw is (record { input_is = p.input_is ∙ rw (brought_is, whole, ne_eqb n 0 some); carried = rw brought_is p.carried })
 
 -- where there is more, a byte or more was taken
-more-taken : (got : ℤ) (n : ℕ) (piece : List ℕ) → is_more (input_after got n piece) ≡ true → 0 < length (taken_of n piece)
-more-taken (negsuc k) n piece m = absurd (true≢false (sym m))
-more-taken (pos k) n piece m = go (eqb (length piece) 0) (too_many n piece) refl m
+more-taken : (got : Result ℕ Error) (n : ℕ) (piece : List ℕ) → is_more (input_after got n piece) ≡ true → 0 < length (taken_of n piece)
+more-taken (Err e) n piece m = absurd (true≢false (sym m))
+more-taken (Ok k) n piece m = go (eqb (length piece) 0) (too_many n piece) refl m
   where
     go : (a b : Bool) → eqb (length piece) 0 ≡ a → is_more (cond a Ended (cond b TooLong More)) ≡ true → 0 < length (cond b [] piece)
     go true b e m = absurd (true≢false (sym m))
