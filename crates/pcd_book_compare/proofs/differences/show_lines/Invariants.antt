@@ -1,6 +1,5 @@
 -- `pcd_book_compare::differences::show_lines` meets its contract: the lines that are left fall, and no line at all is the status 0. Assumes nothing.
 use Prim.Native.Nat.{◌≤◌, ◌-◌}
-use native.Mathlib.Omega.{arith}
 use lib.ListN.{length}
 use Rattle.pcd_book_compare.proofs.differences.show_lines.Given as goal
 
