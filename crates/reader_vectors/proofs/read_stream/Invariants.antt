@@ -1,8 +1,7 @@
 -- `reader_vectors::read_stream` is safe and ends: each accepted step goes onward, a refused one ends it, and no call changes the area's length.
 -- Assumes nothing.
-use mathlib.Core.Path.{◌≡◌, sym, ◌∙◌}
+use mathlib.Core.Path.{◌≡◌}
 use Prim.Native.Nat.{◌-◌}
-use native.Mathlib.Omega.{arith}
 use lib.ListN.{length}
 use Rattle.reader_vectors.proofs.read_stream.Given as goal
 

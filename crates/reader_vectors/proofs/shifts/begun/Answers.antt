@@ -1,7 +1,4 @@
-use mathlib.Core.Path.{◌≡◌, refl}
-use Prim.Native.Nat.{◌-◌}
 use native.Mathlib.Omega.{arith}
-use lib.ListN.{length}
 use Rattle.reader_vectors.proofs.shifts.begun.Goals as goal
 
 pub offset_bounds-operators-k : goal.offset_bounds-operators-k

@@ -1,7 +1,6 @@
 -- `reader_vectors::shifts::begun` is safe and ends: the list keeps its eight places. Assumes nothing.
-use mathlib.Core.Path.{◌≡◌, refl}
+use mathlib.Core.Path.{◌≡◌}
 use Prim.Native.Nat.{◌-◌}
-use native.Mathlib.Omega.{arith}
 use lib.ListN.{length}
 use Rattle.reader_vectors.proofs.shifts.begun.Given as goal
 
