@@ -1,6 +1,8 @@
 // A book of cycles (paper 02, request 7): one file for a year. It begins with the number of cycles and the year; then comes an entry for each
 // cycle, its instant and its body's offset; then come the bodies. Here are its layout, its header and its faults. The crate book_writer writes it,
 // book_parts hands out its entries and bodies, and book_view has a view that remembers the lent bytes.
+#![tactic(auto)]
+
 mod faults;
 mod fields;
 mod header;

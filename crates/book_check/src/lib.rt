@@ -1,5 +1,7 @@
 // The check of a book that somebody else wrote (paper 02, request 8): yes, or its first fault with the lowest entry that has it. Yes is said
 // exactly of what our writer gives.
+#![tactic(auto)]
+
 ghost use Rattle.std.specs.Prelude.{◌≡◌};
 ghost use Rattle.book_check.specs.Promise.{CheckPromise};
 

@@ -1,4 +1,6 @@
 // Compares two books of cycles (paper 02, request 9): what one of them has alone, and where the bodies of one instant differ.
+#![tactic(auto)]
+
 mod bodies;
 mod merge;
 

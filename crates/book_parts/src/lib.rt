@@ -1,5 +1,7 @@
 // The parts of a book (paper 02, request 7): entry i and body i, which are the caller's own bytes. No stored offset is trusted: where a part lies
 // is computed. The length and the number of cycles are tested, and nothing else.
+#![tactic(auto)]
+
 ghost use Rattle.std.specs.Prelude.{◌≡◌, ◌+◌, ◌≤◌, length};
 ghost use Rattle.book_parts.specs.Parts.{part_refusal, instant_told, entry_place, body_place, IsPart, PlacePromise};
 

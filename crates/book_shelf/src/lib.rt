@@ -1,4 +1,6 @@
 // What is gathered for a book: a cycle is added where its instant rises, and left out else.
+#![tactic(auto)]
+
 ghost use Rattle.std.specs.Prelude.{◌≡◌};
 ghost use Rattle.book_shelf.specs.Shelves.{EndPromise, rises_above, left_out, added_to};
 

@@ -1,6 +1,8 @@
 // A view of a book (paper 02, request 7): it remembers the lent bytes and hands out entry i and body i as parts of them. A refused book's
 // view holds nothing. The functions that have a view stand in this crate alone: each takes it apart and calls the function of `book`
 // on the slice. Callers with a slice and a number use `entry_of`, `body_of` and `part_refusal_of`, whose contracts say nothing of a view.
+#![tactic(auto)]
+
 ghost use Rattle.std.specs.Prelude.{◌≡◌};
 ghost use Rattle.book.specs.Header.{count_of, year_of};
 ghost use Rattle.book_parts.specs.Parts.{part_refusal, entry_place, body_place, IsPart};

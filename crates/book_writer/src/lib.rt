@@ -1,4 +1,6 @@
 // Writes a book (paper 02, request 7) from a year and the bodies of its cycles, end to end.
+#![tactic(auto)]
+
 ghost use Rattle.std.specs.Prelude.{◌≡◌, ◌++◌, ◌+◌, ◌*◌, ◌≤◌, ◌<◌, eqb, length, take, drop};
 ghost use Rattle.base.specs.Numbers.{bytes_of};
 ghost use Rattle.base.specs.Ranges.{lowest, joined};

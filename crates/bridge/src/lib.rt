@@ -1,4 +1,6 @@
 // The reader and the writer for programs in other languages: exported entries, one file for each. include/pcd.h declares them for C.
+#![tactic(auto)]
+
 mod reading;
 mod writing;
 

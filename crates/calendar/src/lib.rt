@@ -1,4 +1,6 @@
 // The years that a time code can be of, and the last day of each (paper 02, request 4).
+#![tactic(auto)]
+
 ghost use Rattle.std.specs.Prelude.{◌≡◌};
 ghost use Rattle.calendar.specs.Calendar.{in_span, is_leap, last_day};
 

@@ -1,11 +1,13 @@
 // A tally as it crosses to programs in other languages: its numbers and the frame's 128 bytes, which the caller lends. An entry works
 // on them in place. No number is cut: numbers that are no tally's are refused as a tally not in order is.
+#![tactic(auto)]
+
 mod duty;
 mod lock;
 
 ghost use Rattle.crossing.specs.Crossing.{lent, TakeCrossed, FreshCrossed};
 
-pub use duty::change_duty;
+pub use crate::duty::change_duty;
 pub use lock::take_to_lock;
 use tally_numbers::{NUMBERS, flag, put_tally};
 

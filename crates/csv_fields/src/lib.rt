@@ -1,4 +1,6 @@
 // Fields of comma-separated values as RFC 4180 has them, and integers as text. A program puts the commas and ends each line with a line feed.
+#![tactic(auto)]
+
 ghost use Rattle.std.specs.Prelude.{◌≡◌, nat_abs};
 ghost use Rattle.command.specs.Text.{Adds};
 ghost use Rattle.csv_fields.specs.Fields.{is_special, is_plain, doubled, quoted, csv_field, number_field, integer_text};

@@ -1,5 +1,7 @@
 // A cycle of a book (paper 02, request 7): four major frames of the kinds 0, 1, 2, 3 in order, each minor frame with its sync bytes and its
 // number. Its instant is that of its kind 0 column.
+#![tactic(auto)]
+
 ghost use Rattle.std.specs.Prelude.{◌≡◌, ◌≤◌, ◌<◌, eqb, length, get_or};
 ghost use Rattle.cycle.specs.Cycle.{is_numbered, all_numbered, is_kind, is_major, is_frame, is_cycle, time_bytes, instant_of};
 

@@ -1,4 +1,6 @@
 // Word 72 of a cycle's major frames, and the counts in it. A leaf for the records of a cycle.
+#![tactic(auto)]
+
 ghost use Rattle.std.specs.Prelude.{◌≡◌, ◌≤◌, min, length};
 ghost use Rattle.cycle_records.specs.Columns.{column_of, count_at};
 ghost use Rattle.fixed_point.specs.Promise.{ScaledPromise};

@@ -1,6 +1,8 @@
 // Gathers cycles from major frames as they come: four frames of the kinds 0, 1, 2, 3 in a row are a cycle (paper 02, request 7), and are held in the
 // four slots of a frame store until it is whole (request 12). The caller hands the store's bits on from call to call, and begins with 0; while
 // they are 0, the area may be another one.
+#![tactic(auto)]
+
 ghost use Rattle.std.specs.Prelude.{◌≡◌, length};
 ghost use Rattle.cycle_frames.specs.Gathering.{held_in, kept_as, not_taken, IsCount};
 ghost use Rattle.cycle_frames.specs.Promise.{NextPromise};

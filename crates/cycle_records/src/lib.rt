@@ -1,4 +1,6 @@
 // What the records of a cycle share: when they are refused, and the instant that they have (DFCB 3.2.7.4.5, 3.2.7.4.8).
+#![tactic(auto)]
+
 ghost use Rattle.std.specs.Prelude.{◌≡◌, ◌≤◌, ◌<◌, ◌^◌};
 ghost use Rattle.base.specs.Refusal.{refusal as number};
 ghost use Rattle.cycle.specs.Cycle.{instant_of};

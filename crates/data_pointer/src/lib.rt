@@ -1,4 +1,6 @@
 // The sequence of the data pointer (PNTR) from frame to frame (DFCB 3.2.6.2.5, equations 1 and 2; paper 02, request 13).
+#![tactic(auto)]
+
 ghost use Rattle.data_pointer.specs.Promise.{NextPromise, PreviousPromise, AfterPromise, DistancePromise};
 
 // A pointer, 0 to 84, or of `distance` a number of frames; or the number of the refusal.

@@ -1,5 +1,7 @@
 // A double as decimal text that denotes exactly its number, so that every reader makes the same double of it again. A double is a whole number
 // times or over a power of two; n / 2^p is n × 5^p / 10^p, so the digits end.
+#![tactic(auto)]
+
 mod digits;
 
 ghost use Rattle.std.specs.Prelude.{◌≡◌, ◌+◌, ◌^◌, ◌≤◌, ◌<◌, length};

@@ -1,4 +1,6 @@
 // A change of duty (paper 02, request 5): a call that names an operator.
+#![tactic(auto)]
+
 ghost use Rattle.std.specs.Prelude.{◌≡◌};
 ghost use Rattle.labelling.specs.Operators.{on_duty};
 ghost use Rattle.labelling.specs.Machine.{with_operators};

@@ -1,6 +1,6 @@
 -- A count as an integer, as the code makes it: a number below 2^31, or one less 2^32. Assumes nothing.
 use mathlib.Core.Path.{◌≡◌, ◌∙◌}
-use Prim.Native.Nat.{ℕ, ◌-◌, ◌^◌, ◌≤◌, ◌<◌}
+use Prim.Native.Nat.{ℕ, ◌^◌, ◌≤◌, ◌<◌}
 use native.Mathlib.Omega.{arith}
 use lib.IntN.{pos, sub_ℕ, ◌-ℤ◌}
 use mir.Syntax.{w64}

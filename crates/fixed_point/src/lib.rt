@@ -1,5 +1,7 @@
 // Two's complement counts of 32 bits as numbers (DFCB 3.2.7.4.4, 3.2.7.4.5 and 3.2.7.4.8): as an integer, and times a power of two as a double,
 // which holds it exactly.
+#![tactic(auto)]
+
 ghost use Rattle.std.specs.Prelude.{◌≡◌, ◌≤◌, ◌<◌, ◌^◌, eqb};
 ghost use Rattle.std.specs.Float.Ieee.{odd};
 ghost use Rattle.fixed_point.specs.Counts.{signed as signedCount};

@@ -1,5 +1,7 @@
 // What goes with frames for programs in other languages: exported entries over VCDU headers, the data pointer and the frame store. include/pcd.h
 // declares them for C.
+#![tactic(auto)]
+
 mod headers;
 mod pointer;
 mod slots;

@@ -1,7 +1,7 @@
 -- A frame put into a slot: it stands there, and every other slot's bytes stay. Assumes nothing.
 use mathlib.Core.Path.{◌≡◌, refl, sym, ap, ◌∙◌}
 use mathlib.Core.Bool.{Bool, true, false}
-use mathlib.Core.List.{List, ◌++◌, append_assoc, append-nil}
+use mathlib.Core.List.{List, ◌++◌, append_assoc}
 use mathlib.Core.Logic.{◌⊎◌, inl, inr}
 use Prim.Native.Nat.{ℕ, ◌+◌, ◌-◌, ◌≤◌, ◌<◌}
 use native.Mathlib.Nat.{add-sub_of_le}
@@ -9,8 +9,8 @@ use native.Mathlib.Omega.{arith}
 use borrow.Author.Tests.{ltb-true, ltb-false}
 use borrow.Rule.Slice.PartMut.{put_mid, Post-is}
 use lib.Dec.{ltb}
-use lib.ListN.{length, take, drop, get_or, length-append, length-take, length-drop, get_or-append, drop_of_length-le}
-use lib.Seq.{take_at, drop_at, get_or-take, get_or-drop, get_or-append-add, ext_get_or, length-take-le, take-length}
+use lib.ListN.{length, take, drop, get_or, length-append, length-take, length-drop, get_or-append}
+use lib.Seq.{take_at, drop_at, get_or-take, get_or-drop, get_or-append-add, ext_get_or, length-take-le}
 use Rattle.base.specs.Format.{major_frame}
 use Rattle.frame_store.specs.Slots.{start, slot_bytes, with_frame}
 
@@ -90,13 +90,7 @@ module _ (i : ℕ) (frame area : List ℕ) (sized : length frame ≡ major_frame
           byte new k l ∙ byte_elsewhere (start j + k) (apart j k other l) ∙ sym (byte area k l)
 
 -- what the code's copy into a part of the area leaves
-pub copied : (i : ℕ) (frame area last : List ℕ) → length frame ≡ major_frame → start i + major_frame ≤ length area
-    → last ≡ take (length frame) frame ++ drop (length frame) (take (start i + major_frame - start i) (drop (start i) area))
+pub copied : (i : ℕ) (frame area last : List ℕ) → start i + major_frame ≤ length area → last ≡ frame
     → put_mid (start i) (start i + major_frame - start i) area last ≡ with_frame i frame area
 unfolding with_frame
-copied i frame area last sized room e =
-    let size : start i + major_frame - start i ≡ major_frame = omega arith in
-    let none = drop_of_length-le (take (start i + major_frame - start i) (drop (start i) area)) {i = length frame}
-    (omega (arith, length-take (start i + major_frame - start i) (drop (start i) area))) in
-    let whole : last ≡ frame = e ∙ rw (none, take-length) (append-nil frame) in
-    rw (whole, Post-is (start i) (start i + major_frame) area (omega arith))
+copied i frame area last room whole = rw (whole, Post-is (start i) (start i + major_frame) area (omega arith))

@@ -1,12 +1,11 @@
 -- Each promise, by its ways out. Assumes nothing.
 use mathlib.Core.Path.{◌≡◌, refl, sym, ap, ◌∙◌}
-use mathlib.Core.List.{List, [], ◌∷◌}
+use mathlib.Core.List.{List, []}
 use Prim.Native.Nat.{ℕ, suc, ◌+◌, ◌-◌, ◌^◌, ◌≤◌}
 use native.Mathlib.Omega.{arith}
 use lib.ListN.{length}
 use Rattle.base.specs.Format.{major_frame}
 use Rattle.frame_store.specs.declared.Stored.{Stored}
-use Rattle.frame_store.specs.declared.Released.{Released}
 use Rattle.frame_store.specs.Slots.{slots, start, slot_bytes, with_frame, lowest_free}
 use Rattle.frame_store.specs.Answers.{stored_in, not_stored, not_released, store_refusal, slot_refusal}
 use Rattle.frame_store.specs.Calls.{storing, releasing, reading, accepted, refused}

@@ -1,5 +1,7 @@
 // Holds major frames in the slots of a lent area until a cycle is whole (paper 02, request 12). One number's bits tell which slots are in use, 2^i
 // for slot i. The caller hands it on from call to call, as each one answers it, and begins with 0.
+#![tactic(auto)]
+
 ghost use Rattle.std.specs.Prelude.{◌≡◌};
 ghost use Rattle.base.specs.Refusal.{refusal as number};
 ghost use Rattle.frame_store.specs.Slots.{lowest_free};

@@ -1,4 +1,6 @@
 // A fresh tally, with which every list of calls begins (paper 01, "The tally and one call"; paper 02, requests 5 and 6).
+#![tactic(auto)]
+
 ghost use Rattle.std.specs.Prelude.{◌≡◌};
 ghost use Rattle.labelling.specs.Once.{FreshPromise};
 ghost use Rattle.labelling.specs.Machine.{fresh as fresh_of};

@@ -1,14 +1,12 @@
 -- The book's own values: the coefficients of the generator (B.3) and the check symbols of its four headers (3.1.2.2.1.8). Assumes nothing.
 use mathlib.Core.Path.{◌≡◌, refl}
-use mathlib.Core.List.{List, [], ◌∷◌}
-use Prim.Native.Nat.{ℕ}
-use lib.Dec.{lit<}
+use mathlib.Core.List.{[], ◌∷◌}
 use Rattle.header_code.specs.Field.{times_x, times, power}
-use Rattle.header_code.specs.Code.{Word, end, symbol, CodeWord}
+use Rattle.header_code.specs.Code.{CodeWord}
 use Rattle.header_code.specs.Symbols.{symbols_of}
 use Rattle.header_code.specs.Generator.{generator}
 use Rattle.header_code.proofs.Symbols.{symbols-word}
-use Rattle.header_code.proofs.Syndromes.{syndrome, syndrome-code}
+use Rattle.header_code.proofs.Syndromes.{syndrome-code}
 
 -- G0 and G4 are a^0, G1 and G3 are a^3; G2, which the copy of the book at hand has lost, is a^1
 pub generator-is : generator ≡ power 0 ∷ power 3 ∷ power 1 ∷ power 3 ∷ power 0 ∷ []

@@ -1,13 +1,12 @@
 -- The table of check symbols: six symbols, followed by what is added up of it for them, are a code word. Assumes nothing.
-use mathlib.Core.Path.{◌≡◌, refl, sym, ap, ap₂, ◌∙◌, subst}
-use mathlib.Core.List.{List, [], ◌∷◌, ◌++◌}
+use mathlib.Core.Path.{◌≡◌, refl, sym, ap, ◌∙◌, subst}
+use mathlib.Core.List.{List, ◌++◌}
 use Prim.Native.Nat.{ℕ, zero, suc, ◌+◌, ◌*◌, ◌≤◌, ◌<◌}
 use native.Mathlib.Omega.{arith}
 use lib.Bits.{xor_self}
-use lib.Dec.{eqb}
-use lib.ListN.{length, get_or, take}
+use lib.ListN.{get_or, take}
 use Rattle.header_code.specs.Field.{◌⊕◌}
-use Rattle.header_code.specs.Code.{Word, end, symbol, CodeWord, add}
+use Rattle.header_code.specs.Code.{Word, end, symbol, CodeWord}
 use Rattle.header_code.specs.Symbols.{symbols_of, combined}
 use Rattle.header_code.specs.Decoder.{syndromes, checks}
 use Rattle.header_patterns.proofs.Every.{same2}

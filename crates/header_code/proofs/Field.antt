@@ -1,10 +1,9 @@
 -- Sums and products are elements again, and the product is linear in its first factor. Assumes nothing.
-use mathlib.Core.Path.{◌≡◌, refl, ap₂, ◌∙◌}
+use mathlib.Core.Path.{◌≡◌, refl}
 use mathlib.Core.Bool.{Bool, true, false, cond}
 use Prim.Native.Nat.{ℕ, zero, suc, ◌/◌, ◌%◌, ◌<◌}
-use native.Mathlib.Omega.{arith}
 use lib.Bits.{xor_lt}
-use lib.Dec.{T, eqb, ltb, ltb→lt, lit<}
+use lib.Dec.{eqb, ltb, ltb→lt, lit<}
 use Rattle.header_code.specs.Field.{◌⊕◌, times_x, times_bits, times, power}
 use Rattle.header_patterns.proofs.Every.{each, same2}
 use Rattle.header_code.proofs.Sums.{swap}

@@ -2,17 +2,17 @@
 use mathlib.Core.Path.{sym, subst}
 use mathlib.Core.Bool.{Bool, true, false, cond}
 use mathlib.Core.List.{List}
-use Prim.Native.Nat.{ℕ, ◌+◌, ◌*◌, ◌/◌, ◌%◌, ◌^◌, ◌≤◌, ◌<◌}
+use Prim.Native.Nat.{ℕ, ◌*◌, ◌/◌, ◌%◌, ◌^◌, ◌≤◌, ◌<◌}
 use native.Mathlib.Omega.{arith}
 use native.Mathlib.Nat.{mod-lt}
-use lib.Dec.{T, eqb, leb, ltb, leb→le, ltb→lt, lit<}
+use lib.Dec.{eqb, leb, leb→le, lit<}
 use lib.ListN.{get_or}
 use Rattle.header_code.specs.Field.{◌⊕◌}
 use Rattle.header_code.specs.Code.{weight}
 use Rattle.header_code.specs.Symbols.{symbols_of}
 use Rattle.header_code.specs.Decoder.{cell, products, quotients, roots, sixths, places, lifted, one, both, from_root, from_sums, two, by_determinant}
 use Rattle.header_code.specs.Decoder.{from_values, located}
-use Rattle.header_patterns.proofs.Every.{all, each, each2}
+use Rattle.header_patterns.proofs.Every.{each, each2}
 use Rattle.header_code.proofs.Field.{sum_lt}
 use Rattle.header_code.proofs.Words.{weight-add_le}
 use Rattle.header_code.proofs.Symbols.{symbols-word, symbols-sum}

@@ -1,9 +1,9 @@
 -- The table of syndromes: what is added up of it for a word's symbols are the word's values at the four roots. Assumes nothing.
 use mathlib.Core.Path.{◌≡◌, refl, sym, subst}
-use mathlib.Core.List.{List, [], ◌∷◌}
+use mathlib.Core.List.{List}
 use Prim.Native.Nat.{ℕ, zero, suc, ◌+◌, ◌-◌, ◌*◌, ◌≤◌, ◌<◌}
 use native.Mathlib.Omega.{arith}
-use lib.ListN.{length, get_or}
+use lib.ListN.{get_or}
 use Rattle.header_code.specs.Field.{◌⊕◌, times_x, times, power}
 use Rattle.header_code.specs.Code.{Word, end, symbol, value, CodeWord, add}
 use Rattle.header_code.specs.Symbols.{combined, packed}

@@ -3,14 +3,13 @@
 use mathlib.Core.Path.{◌≡◌, refl, sym, ap, ◌∙◌}
 use mathlib.Core.Bool.{Bool, true, false, cond}
 use mathlib.Core.List.{List, [], ◌∷◌}
-use Prim.Native.Nat.{ℕ, zero, suc, ◌+◌, ◌≤◌, ◌<◌}
+use Prim.Native.Nat.{ℕ, zero, suc, ◌+◌, ◌≤◌}
 use native.Mathlib.Omega.{arith}
 use lib.Bits.{xor_zero_r}
 use lib.Dec.{eqb}
 use lib.ListN.{take}
 use borrow.Author.Tests.{eq-eqb}
-use Rattle.header_code.specs.Field.{◌⊕◌}
-use Rattle.header_code.specs.Code.{Word, end, symbol, CodeWord, distance, add, weight}
+use Rattle.header_code.specs.Code.{Word, end, symbol, CodeWord, distance, add}
 use Rattle.header_code.specs.Symbols.{symbols_of, number_of}
 use Rattle.header_code.specs.Decoder.{located}
 use Rattle.header_code.proofs.Words.{add-word, add-undo, weight-add}

@@ -1,5 +1,7 @@
 // Finds at most two wrong symbols from a syndrome (header_code's Decoder.antt has the same as definitions, and proves that they are found).
 // Symbols are numbers below 16; p, q, r and s are the values at a^6, a^7, a^8 and a^9. A leaf for the entries of vcdu_header.
+#![tactic(auto)]
+
 mod tables;
 
 ghost use Rattle.std.specs.Prelude.{◌≡◌, ◌*◌, ◌<◌, ◌^◌, get_or};

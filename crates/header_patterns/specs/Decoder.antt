@@ -1,6 +1,6 @@
 -- How at most two wrong symbols are found from a word's values at the four roots, its syndrome. Only the proofs know that the word is then
 -- right: the promises speak of code words alone. Definitions only.
-use Rattle.std.specs.Prelude.{cond, List, [], ◌∷◌, ℕ, zero, suc, ◌*◌, ◌/◌, ◌%◌, ◌^◌, eqb, get_or}
+use Rattle.std.specs.Prelude.{cond, List, [], ◌∷◌, ℕ, ◌*◌, ◌/◌, ◌%◌, ◌^◌, eqb, get_or}
 use Rattle.header_patterns.specs.Field.{◌⊕◌}
 
 -- ---- tables of sixteen rows; a row is the sixteen digits of a number to the base of 16, the last digit first

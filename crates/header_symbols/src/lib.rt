@@ -1,5 +1,7 @@
 // The ten symbols of a VCDU header as one number of 40 bits, the first symbol highest: taken, put back, weighed and looked up. A leaf for the entries
 // of vcdu_header.
+#![tactic(auto)]
+
 mod tables;
 
 ghost use Rattle.std.specs.Prelude.{◌≡◌, ◌+◌, ◌*◌, length, get_or};

@@ -1,5 +1,7 @@
 // The reader's calls in place: on the numbers of a tally and on its frame where they lie. The counts are read once and written once, and the frame is
 // filled where it is, so that a call on a small piece costs no copy of a tally.
+#![tactic(auto)]
+
 ghost use Rattle.std.specs.Prelude.{◌≡◌, true, false, ◌&&◌, ◌+◌, ◌≤◌, ◌^◌, length, get_or};
 ghost use Rattle.base.specs.Format.{minor_frame, major_frame};
 ghost use Rattle.labelling.specs.Calls.{answer};

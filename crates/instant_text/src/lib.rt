@@ -1,4 +1,6 @@
 // An instant of a year as text: 2003-123T04:56:07.8909375, the form of ISO 8601 with the day of the year.
+#![tactic(auto)]
+
 ghost use Rattle.std.specs.Prelude.{◌≡◌, ◌-◌, ◌≤◌, ◌∷◌};
 ghost use Rattle.command.specs.Text.{Adds};
 ghost use Rattle.instant_text.specs.Instants.{clock_text, padded};

@@ -41,9 +41,15 @@ pub record FramingStep (e : WordEvent) (f' : Framing) (bytes' : List ℕ) (ws ws
 
 -- a closed frame is counted in its class
 tallied-closed : (k j : FrameClass) (f : Framing) (w : Word) → tallied (after_word (closes_frame k) f w) j ≡ tallied f j + one (same_class j k)
-tallied-closed Good j f w = elim j [ Good ↦ omega arith | Damaged ↦ omega arith | Unsynced ↦ omega arith ]
-tallied-closed Damaged j f w = elim j [ Good ↦ omega arith | Damaged ↦ omega arith | Unsynced ↦ omega arith ]
-tallied-closed Unsynced j f w = elim j [ Good ↦ omega arith | Damaged ↦ omega arith | Unsynced ↦ omega arith ]
+tallied-closed Good Good f w = omega arith
+tallied-closed Good Damaged f w = omega arith
+tallied-closed Good Unsynced f w = omega arith
+tallied-closed Damaged Good f w = omega arith
+tallied-closed Damaged Damaged f w = omega arith
+tallied-closed Damaged Unsynced f w = omega arith
+tallied-closed Unsynced Good f w = omega arith
+tallied-closed Unsynced Damaged f w = omega arith
+tallied-closed Unsynced Unsynced f w = omega arith
 
 module _ (f : Framing) (bytes : List ℕ) (w : Word) (ws : List Word) (i : FramingInv f bytes ws) where
   -- the state and the step where the word is the event e, and cuts the pieces `more`

@@ -237,7 +237,8 @@ module _ (rule : ℕ) (is_rule_fact : is_rule rule ≡ true) (a₀ : List ℕ) (
       let second : Handed u b (takes d ∷ []) (answer d).tally (answer d).area = rw (q.tally_is, q.area_is) (accepted d r' done) in
       let next = more x first second (both_take c d r r' same ends) in
       let s' = after_both (takes c) (takes d) cs ds rest rest' s in
-      both_take c d r r' (answers_same x (joined rest) (joined rest') c d next same s') (each_same k next p.rest q.rest s')
+      both_take c d r r' (answers_same x (joined rest) (joined rest') c d next same s')
+      (each_same {cs = cs ++ takes c ∷ []} {ds = ds ++ takes d ∷ []} k next p.rest q.rest s')
   each_same {cs} {ds} {t} {u} {a} {b} (both_change {cs = rest} {ds = rest'} c d r r' same k) x h g s =
       let p = duty_changed c r h in
       let q = duty_changed d r' g in
@@ -245,7 +246,8 @@ module _ (rule : ℕ) (is_rule_fact : is_rule rule ≡ true) (a₀ : List ℕ) (
       let second : Handed u b (changes d ∷ []) (duty_answer d) b = rw q.tally_is (changed d r' done) in
       let next = more x first second (both_change c d r r' same ends) in
       let s' = after_both (changes c) (changes d) cs ds rest rest' s in
-      both_change c d r r' (left-same (joined rest) (joined rest') next s').tally_left (each_same k next p.rest q.rest s')
+      both_change c d r r' (left-same (joined rest) (joined rest') next s').tally_left
+      (each_same {cs = cs ++ changes c ∷ []} {ds = ds ++ changes d ∷ []} k next p.rest q.rest s')
 
   -- ---- the same calls over the other stream
 
@@ -350,14 +352,14 @@ module _ (rule : ℕ) (is_rule_fact : is_rule rule ≡ true) (a₀ : List ℕ) (
       let next = more x (accepted c e done) (accepted d ok done) (both_take c d e ok same ends) in
       let s' : SameWords (rule_vote rule) (joined (cs ++ takes c ∷ []) ++ joined rest) (joined (ds ++ takes d ∷ []) ++ drop n bs) =
       rw (joined-more cs (takes c) (joined rest), joined-more ds (takes d) (drop n bs), takes-it, take-append-drop n bs) s in
-      take-first c d e ok same takes-it (reread (drop n bs) next h s')
+      take-first c d e ok same takes-it (reread {cs = cs ++ takes c ∷ []} {ds = ds ++ takes d ∷ []} (drop n bs) next h s')
   reread {cs} {ds} {u = u} {b = b} bs x (changed {cs = rest} c e h) s =
       let d : DutyCall = record { tally = u; operator = c.operator } in
       let ok = (once rule is_rule_fact a₀ whole ds u b x.there).changes_on c.operator (duty_passed c e).is_operator in
       let next = more x (changed c e done) (changed d ok done) (both_change c d e ok refl ends) in
       let s' : SameWords (rule_vote rule) (joined (cs ++ changes c ∷ []) ++ joined rest) (joined (ds ++ changes d ∷ []) ++ bs) =
       rw (joined-more cs (changes c) (joined rest), joined-more ds (changes d) bs) s in
-      change_first c d e ok refl (reread bs next h s')
+      change_first c d e ok refl (reread {cs = cs ++ changes c ∷ []} {ds = ds ++ changes d ∷ []} bs next h s')
 
   -- ---- the claim
 

@@ -1,6 +1,6 @@
 -- The halving rule: from any low and high it has one outcome, each look at least halves what lies between them, and a loop that keeps low, high
 -- and the looks so far comes to the outcome of the whole search. Assumes nothing.
-use mathlib.Core.Path.{◌≡◌, refl, subst}
+use mathlib.Core.Path.{◌≡◌, refl, ap, subst}
 use mathlib.Core.Bool.{Bool, true, false}
 use mathlib.Core.List.{List}
 use mathlib.Core.Logic.{⊎_elim}
@@ -13,17 +13,24 @@ use borrow.Author.Tests.{leb-true, leb-false}
 use Rattle.lookup.specs.Halving.{halfway, Halving, met, past, before, Search}
 
 module _ (xs : List ℕ) (wanted : ℕ) where
+  -- from the same low and high, however written, the rule comes to one end with one number of looks
+  same_end : {low high e k low' high' e' k' : ℕ} → Halving xs wanted low high e k → Halving xs wanted low' high' e' k' → low ≡ low' → high ≡ high'
+      → (e ≡ e') × (k ≡ k')
+  same_end met met l h = (l, refl)
+  same_end met (past differ at_most r) l h = absurd (differ (omega arith))
+  same_end met (before differ above r) l h = absurd (differ (omega arith))
+  same_end (past differ at_most r) met l h = absurd (differ (omega arith))
+  same_end (past differ at_most r) (past differ' at_most' r') l h = let u = same_end r r' (omega arith) h in (u.0, omega arith)
+  same_end {low} {high} {low' = low'} {high' = high'} (past differ at_most r) (before differ' above' r') l h =
+      let m : halfway low high ≡ halfway low' high' = omega arith in absurd (omega (arith, ap (λ (i : ℕ). get_or xs i 0) m))
+  same_end (before differ above r) met l h = absurd (differ (omega arith))
+  same_end {low} {high} {low' = low'} {high' = high'} (before differ above r) (past differ' at_most' r') l h =
+      let m : halfway low high ≡ halfway low' high' = omega arith in absurd (omega (arith, ap (λ (i : ℕ). get_or xs i 0) m))
+  same_end (before differ above r) (before differ' above' r') l h = let u = same_end r r' l (omega arith) in (u.0, omega arith)
+
   -- from the same low and high the rule comes to one end with one number of looks
   pub unique : {low high e k e' k' : ℕ} → Halving xs wanted low high e k → Halving xs wanted low high e' k' → (e ≡ e') × (k ≡ k')
-  unique met met = (refl, refl)
-  unique met (past differ at_most h) = absurd (differ refl)
-  unique met (before differ above h) = absurd (differ refl)
-  unique (past differ at_most h) met = absurd (differ refl)
-  unique (past differ at_most h) (past differ' at-most' h') = let u = unique h h' in (u.0, omega arith)
-  unique (past differ at_most h) (before differ' above h') = omega arith
-  unique (before differ above h) met = absurd (differ refl)
-  unique (before differ above h) (past differ' at_most h') = omega arith
-  unique (before differ above h) (before differ' above' h') = let u = unique h h' in (u.0, omega arith)
+  unique h h' = same_end h h' refl refl
 
   -- the end lies within low and high
   pub within : {low high e k : ℕ} → Halving xs wanted low high e k → low ≤ high → e ≤ high

@@ -1,4 +1,6 @@
 // Finds the last recorded instant at or before a wanted one, by halving (paper 02, request 1).
+#![tactic(auto)]
+
 ghost use Rattle.std.specs.Prelude.{◌≡◌, ◌+◌, ◌≤◌, length};
 ghost use Rattle.lookup.specs.Halving.{halfway, Search};
 ghost use Rattle.lookup.specs.Answer.{given};

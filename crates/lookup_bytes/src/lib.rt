@@ -1,5 +1,7 @@
 // Finds an instant among instants that come as bytes, eight each, the first byte highest (paper 02, request 14). There is no room to make a list
 // of numbers of them, so each instant is read where it stands; the rule is that of `lookup::find`.
+#![tactic(auto)]
+
 ghost use Rattle.std.specs.Prelude.{◌≡◌, ◌+◌, ◌*◌, ◌%◌, ◌^◌, ◌≤◌, ◌<◌, length, get_or};
 ghost use Rattle.lookup.specs.Halving.{Search};
 ghost use Rattle.lookup_bytes.specs.Promise.{instants_in, FourRead, FindPromise};

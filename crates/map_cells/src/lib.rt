@@ -1,4 +1,6 @@
 // The cells of a map, each a class: the highest of what came of a stretch of the reel. A leaf for `reel_map`, and what the picture reads.
+#![tactic(auto)]
+
 ghost use Rattle.std.specs.Prelude.{◌≡◌, get_or};
 ghost use Rattle.map_cells.specs.Cells.{higher, pair_in, raised, halved, RunEnd};
 

@@ -1,4 +1,6 @@
 // The lines of a map's picture, in SVG.
+#![tactic(auto)]
+
 ghost use Rattle.command.specs.Text.{Adds};
 ghost use Rattle.map_lines.specs.Lines.{place_text, rect_text, label_text, legend_text};
 

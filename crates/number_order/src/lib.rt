@@ -1,5 +1,7 @@
 // Whether the numbers of a tally are in order, tested where they lie. Only the bytes are held against the limit of 2^40 itself: where the sums hold,
 // each other count is at most the bytes. Before a sum its counts are held against a wider bound, all at once by `|`, so that it does not run over.
+#![tactic(auto)]
+
 ghost use Rattle.std.specs.Prelude.{◌≡◌, true, ◌&&◌, List, ℕ, ◌+◌, ◌≤◌, ◌^◌, get_or};
 ghost use Rattle.labelling.specs.Order.{few_weak, paid_sum, rule_in_order, in_order};
 ghost use Rattle.tally_numbers.specs.Numbers.{is_tally, groups_of, framing_of, runs_of, operators_of, tally_of};

@@ -1,4 +1,6 @@
 // The attitude (DFCB 3.2.7.4.5), in every major frame.
+#![tactic(auto)]
+
 ghost use Rattle.std.specs.Prelude.{◌≡◌};
 ghost use Rattle.fixed_point.specs.Counts.{signed};
 ghost use Rattle.cycle_columns.specs.Values.{word};

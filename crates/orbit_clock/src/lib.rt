@@ -1,4 +1,6 @@
 // The terms of the clock (DFCB 3.2.7.4.6 and 3.2.7.4.7), in major frame 0.
+#![tactic(auto)]
+
 ghost use Rattle.std.specs.Prelude.{◌≡◌, length};
 ghost use Rattle.orbit_clock.specs.Record.{no_clock};
 ghost use Rattle.orbit_clock.specs.Promise.{ClockPromise, ClockIn};

@@ -1,4 +1,6 @@
 // The ephemeris (DFCB 3.2.7.4.8, figure 24), in every major frame.
+#![tactic(auto)]
+
 ghost use Rattle.std.specs.Prelude.{◌≡◌, ◌+◌, ◌≤◌, length};
 ghost use Rattle.orbit_ephemeris.specs.Record.{ephemeris_place, no_ephemeris};
 ghost use Rattle.orbit_ephemeris.specs.Promise.{EphemerisPromise, EphemerisIn};

@@ -1,4 +1,6 @@
 // The drift of the gyros (DFCB 3.2.7.4.4), in major frame 0.
+#![tactic(auto)]
+
 ghost use Rattle.std.specs.Prelude.{◌≡◌};
 ghost use Rattle.orbit_gyro_drift.specs.Record.{no_gyro_drift};
 ghost use Rattle.orbit_gyro_drift.specs.Promise.{GyroDriftPromise, DriftIn};

@@ -1,4 +1,6 @@
 // A value of a record of a cycle as a line of comma-separated values.
+#![tactic(auto)]
+
 ghost use Rattle.command.specs.Text.{Adds};
 ghost use Rattle.orbit_rows.specs.Rows.{pair_text, date_text, clock_text, when_text, refusal_text, start_text, end_text, double_row, integer_row};
 

@@ -1,4 +1,6 @@
 // The temperatures of table 11 (DFCB 3.2.7.4.2), in every major frame.
+#![tactic(auto)]
+
 ghost use Rattle.std.specs.Prelude.{◌≡◌, ◌+◌, ◌≤◌, ◌<◌, length};
 ghost use Rattle.fixed_point.specs.Promise.{ScaledPromise};
 ghost use Rattle.orbit_temperatures.specs.Record.{twelve_bits, twelve_at, temperature_count, upper_clear, no_temperatures};

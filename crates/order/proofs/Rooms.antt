@@ -2,7 +2,6 @@
 use mathlib.Core.Path.{◌≡◌}
 use mathlib.Core.Bool.{Bool, true, ◌&&◌}
 use lib.Dec.{T, leb→le, eqb→eq}
-use lib.ListN.{length}
 use lib.Ieee.Fits.{and_l, and_r}
 use denote.Floats.{passes, is_true}
 use Rattle.labelling.specs.declared.Framing.{Framing}

@@ -1,5 +1,7 @@
 // Whether a tally is in order (paper 01, "The tally and one call"; paper 02, requests 2, 5 and 6). The tests are joined by `&` and `|`, which do not
 // branch, in the order of the definition.
+#![tactic(auto)]
+
 ghost use Rattle.std.specs.Prelude.{◌≡◌};
 ghost use Rattle.labelling.specs.Machine.{state_of};
 ghost use Rattle.labelling.specs.Order.{weak_bounded, groups_bounded, few_weak, framing_bounded, framing_modes, runs_bounded, operators_bounded};

@@ -1,4 +1,6 @@
 // A piece, as far as the byte that completes a major frame, or that ends a hunt where that stops it: stretches, and plain steps between them.
+#![tactic(auto)]
+
 mod stretch;
 
 ghost use Rattle.std.specs.Prelude.{◌≡◌, not, ◌&&◌, ◌<◌, length};

@@ -1,4 +1,6 @@
 // A map of a reel: a cell stands for a stretch of its bytes, and has the highest class of what came of them.
+#![tactic(auto)]
+
 ghost use Rattle.std.specs.Prelude.{◌≡◌, ◌+◌, ◌*◌, ◌/◌, ◌^◌, ◌<◌};
 ghost use Rattle.map_cells.specs.Cells.{raised};
 ghost use Rattle.reel_map.specs.Drawing.{class_of, seen_in, looked, NextPromise};

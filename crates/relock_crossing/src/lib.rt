@@ -1,5 +1,7 @@
 // A step that locks on a frame's own sync, on the numbers that the caller lends: beside the tally's there are two of the feeder's, whether a lock
 // awaits its word, 1 or 0, and how many lead-ins were handed. It is `relocking::relock` in place.
+#![tactic(auto)]
+
 ghost use Rattle.std.specs.Prelude.{◌≡◌, true, not, ◌&&◌, eqb, length, List, ℕ};
 ghost use Rattle.tally_numbers.specs.Numbers.{is_tally, tally_of};
 ghost use Rattle.relocking.specs.Relock.{stands_at_lock, feeder_in_order, before_group};

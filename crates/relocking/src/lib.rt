@@ -1,6 +1,8 @@
 // A reel by calls that lock on a frame's own sync: each goes as far as the byte that ends a hunt, and there the next word decides. Where it is FA, a
 // frame begins, as after a lead-in, and nothing is handed. Before any other word the lead-in of spacing 0 is handed, so that the FA F3 20 that ended
 // the hunt fill places 0 to 2 of their own frame.
+#![tactic(auto)]
+
 ghost use Rattle.std.specs.Prelude.{◌≡◌, Bool, true, false, ◌+◌, ◌≤◌, ◌<◌, length};
 ghost use Rattle.base.specs.Format.{sync_word};
 ghost use Rattle.labelling.specs.MinorFrames.{is_word};

@@ -1,4 +1,6 @@
 // A shift: from which byte of a reel on who is on duty, as a line of two numbers says it.
+#![tactic(auto)]
+
 ghost use Rattle.std.specs.Prelude.{◌≡◌};
 ghost use Rattle.shift_line.specs.Shifts.{ShiftOf};
 

@@ -1,4 +1,6 @@
 // A tally as numbers: 33 of them and the frame's 128 bytes, for callers that cannot hold a tally. What is written is read back the same, both ways.
+#![tactic(auto)]
+
 ghost use Rattle.std.specs.Prelude.{◌≡◌};
 ghost use Rattle.base.specs.Lists.{one};
 ghost use Rattle.tally_numbers.specs.Numbers.{is_tally, groups_of, framing_of, runs_of, operators_of, tally_of, counts_only, numbers_of};

@@ -1,5 +1,7 @@
 // The seven bytes of a time code, written from a spacecraft number and an instant (paper 01, "Time"; DFCB table 12). A leaf for the time code's
 // writer.
+#![tactic(auto)]
+
 ghost use Rattle.std.specs.Prelude.{◌≡◌, ◌≤◌, ◌<◌, length};
 ghost use Rattle.time_fields.specs.Fields.{day_of};
 ghost use Rattle.time_bytes.specs.Bytes.{bcd, code_of, fits, put_after};

@@ -1,4 +1,6 @@
 // The fields of a time code, read from its seven bytes (paper 01, "Time"; DFCB table 12). A leaf for the time code's reader.
+#![tactic(auto)]
+
 ghost use Rattle.std.specs.Prelude.{◌≡◌, [], ◌∷◌, ◌+◌, ◌*◌, ◌/◌, ◌%◌, ◌<◌};
 ghost use Rattle.time_fields.specs.Fields.{decimal, in_range, is_time, instant as instant_of};
 

@@ -2,9 +2,9 @@
 -- `header_code` proves what the tables give of any ten symbols, so that here only the ways out are told apart. Assumes nothing.
 use mathlib.Core.Path.{◌≡◌, refl, sym, ap, ◌∙◌, subst}
 use mathlib.Core.Bool.{Bool, true, false, cond, not}
-use mathlib.Core.List.{List, [], ◌∷◌, ◌++◌}
+use mathlib.Core.List.{List, ◌++◌}
 use mathlib.Core.Option.{Option, none, some}
-use Prim.Native.Nat.{ℕ, ◌+◌, ◌*◌, ◌/◌, ◌%◌, ◌^◌, ◌≤◌, ◌<◌}
+use Prim.Native.Nat.{ℕ, ◌/◌, ◌%◌, ◌≤◌, ◌<◌}
 use native.Mathlib.Omega.{arith}
 use lib.Dec.{eqb}
 use lib.ListN.{length, get_or, set, take}
@@ -13,7 +13,7 @@ use borrow.Author.Tests.{eq-eqb, ne_eqb, eqb-true}
 use Rattle.base.specs.Refusal.{answered, refusal}
 use Rattle.base.proofs.Refusals.{answered-of}
 use Rattle.header_code.specs.Field.{◌⊕◌}
-use Rattle.header_code.specs.Code.{Word, CodeWord, distance, add, weight, Near, the_only, no_word}
+use Rattle.header_code.specs.Code.{Word, add, weight, Near, the_only}
 use Rattle.header_code.specs.Symbols.{symbols_of, combined}
 use Rattle.header_code.specs.Decoder.{syndromes, checks, located}
 use Rattle.header_code.proofs.Words.{distance_self}

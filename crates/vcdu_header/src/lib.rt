@@ -1,5 +1,7 @@
 // The check symbols of a VCDU header (paper 02, request 11; the book, appendix B): written, checked, and used to repair a header in which up
 // to two of the ten symbols are wrong. The 24-bit counter, bytes 2 to 4, is not protected.
+#![tactic(auto)]
+
 ghost use Rattle.vcdu_header.specs.Promise.{EncodePromise, CheckPromise, RepairPromise};
 
 use base::refusal::{NO_CODE_WORD, NOT_A_HEADER};

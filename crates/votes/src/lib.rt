@@ -1,4 +1,6 @@
 // The two votes on the three copies of a group, and the copy that they find weak.
+#![tactic(auto)]
+
 ghost use Rattle.std.specs.Prelude.{◌≡◌, ◌≤◌};
 ghost use Rattle.base.specs.Lists.{one};
 ghost use Rattle.labelling.specs.Words.{byte_vote};

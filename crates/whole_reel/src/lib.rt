@@ -1,4 +1,6 @@
 // A whole reel by steps that lock on a frame's own sync, from a fresh tally.
+#![tactic(auto)]
+
 ghost use Rattle.std.specs.Prelude.{◌≡◌, length};
 ghost use Rattle.whole_reel.specs.Whole.{refusal_after, Begins, ReadAll, ReadPromise};
 

@@ -1,4 +1,6 @@
 // Word 72 and its codecs for programs in other languages: exported entries. include/pcd.h declares them for C.
+#![tactic(auto)]
+
 mod codecs;
 mod word72;
 

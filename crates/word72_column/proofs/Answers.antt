@@ -17,7 +17,7 @@ use Rattle.time_code.specs.Fields.{is_time}
 use Rattle.time_code.proofs.Codes.{of_seven}
 use Rattle.word72_column.specs.declared.ColumnKind.{ColumnKind}
 use Rattle.word72_column.specs.declared.ColumnKind.TheVariants.{Kind, Refused}
-use Rattle.word72_column.specs.Columns.{gathered, between, bears, timed, has_kind, kind_of, kind_lines, column_kind, number_of, kinds_of, identifier_of}
+use Rattle.word72_column.specs.Columns.{gathered, between, bears, timed, has_kind, kind_lines, column_kind, number_of, kinds_of, identifier_of}
 use Rattle.word72_column.specs.Promise.{GatherPromise, KindPromise}
 
 -- ---- gather

@@ -1,5 +1,7 @@
 // The column of a major frame (paper 01, "Word 72 and its items"; paper 02, request 4): how word 72 is gathered into it, and what tells its
 // kind.
+#![tactic(auto)]
+
 ghost use Rattle.std.specs.Prelude.{◌≡◌, true, length};
 ghost use Rattle.time_code.specs.Calendar.{in_span};
 ghost use Rattle.time_code.specs.Fields.{is_time};

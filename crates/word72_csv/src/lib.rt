@@ -1,5 +1,7 @@
 // The items of word 72 as lines of comma-separated values: the frame, the kind, the item, its first place and its length, its form, the book's
 // description, the value; of a time code the spacecraft and the time; and of a refusal its number and what it means.
+#![tactic(auto)]
+
 mod value;
 
 ghost use Rattle.std.specs.Prelude.{◌≡◌};

@@ -1,5 +1,7 @@
 // The book's descriptions of the items of word 72, as its tables 17 to 20 print them: a line for each item of kind 0, then of kinds 1, 2 and 3. Of
 // several rows of one value what they share is taken.
+#![tactic(auto)]
+
 ghost use Rattle.std.specs.Prelude.{◌≡◌};
 ghost use Rattle.command.specs.Text.{Adds};
 ghost use Rattle.csv_fields.specs.Fields.{csv_field};

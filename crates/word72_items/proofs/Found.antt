@@ -5,7 +5,6 @@ use Prim.Native.Nat.{ℕ, ◌+◌, ◌-◌, ◌≤◌, ◌<◌}
 use native.Mathlib.Omega.{arith}
 use lib.Dec.{T, leb, ltb, leb→le, le→leb, ltb→lt, lt→ltb}
 use lib.Ieee.Fits.{and_i, and_l, and_r}
-use lib.ListN.{length}
 use Rattle.word72_items.specs.declared.Form.{Form}
 use Rattle.word72_items.specs.declared.Item.{Item}
 use Rattle.word72_items.specs.ItemTable.{count_of_items, item_of, entry, holds}

@@ -1,6 +1,6 @@
 -- What each public entry promises: its complete answer, refused calls too. The last two fields of each say it in 01's number and values,
 -- with no enum on their right sides. Definitions only.
-use Rattle.std.specs.Prelude.{◌≡◌, List, [], ◌∷◌, ℕ}
+use Rattle.std.specs.Prelude.{◌≡◌, [], ◌∷◌, ℕ}
 use Rattle.base.specs.Refusal.{answered, refusal}
 use Rattle.word72_items.specs.declared.Description.{Description}
 use Rattle.word72_items.specs.declared.ItemCount.{ItemCount}

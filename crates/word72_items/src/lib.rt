@@ -1,5 +1,7 @@
 // The items of subcommutated word 72 (paper 01, "Word 72 and its items"): what each item of a kind is, and how many a kind has. The
 // items are those of tables 17 to 20 of the DFCB, written out in specs/Layout.antt.
+#![tactic(auto)]
+
 mod search;
 mod tables;
 

@@ -16,7 +16,7 @@ use Rattle.float1750.specs.Codec as number-codec
 use Rattle.float1750.specs.declared.Decoded as number-answer
 use Rattle.float1750.specs.Double.{Exact}
 use Rattle.float1750.specs.Promise as number-promise
-use Rattle.float1750.specs.Word.{is_zero, normalised, value}
+use Rattle.float1750.specs.Word.{is_zero, normalised}
 use Rattle.time_code.specs.Calendar.{in_span}
 use Rattle.time_code.specs.Codec as time-codec
 use Rattle.time_code.specs.declared.Decoded as time-answer

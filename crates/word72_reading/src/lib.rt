@@ -1,4 +1,6 @@
 // What the bytes of an item read as, by the item's form (paper 01, "Word 72 and its items"; paper 02, request 4).
+#![tactic(auto)]
+
 ghost use Rattle.std.specs.Prelude.{◌≡◌, true, [], ◌∷◌, length, T};
 ghost use Rattle.time_code.specs.Calendar.{in_span};
 ghost use Rattle.word72_items.specs.ItemTable.{suits};

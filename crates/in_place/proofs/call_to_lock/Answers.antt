@@ -1,0 +1,25 @@
+-- `in_place::call_to_lock` meets its contract: the second layer, before and after the call, tells the lock. Assumes nothing.
+use mathlib.Core.Path.{◌≡◌, ap, ◌∙◌}
+use Rattle.labelling.specs.declared.Framing.{Framing}
+use Rattle.reader.specs.Shapes.{locked_by}
+use Rattle.tally_numbers.specs.Numbers.{framing_of}
+use Rattle.in_place.proofs.Laws.{lock_told}
+use Rattle.in_place.proofs.LeadIn.{next-call}
+use Rattle.in_place.proofs.call_to_lock.Goals as goal
+use Rattle.in_place.proofs.call_to_lock.Goals.{After-framing_of-after}
+
+pub call-part-requires : goal.call-part-requires
+call-part-requires c = read.before.before.before.before.requires
+
+-- where the second layer is read again
+module _ (reread : After-framing_of-after) where
+
+pub returns : goal.returns
+returns c =
+    let a = c.args in
+    let n = a.numbers.now in
+    let seen = c.framing_of-before.ensures in
+    let told = c.has_locked-locked.ensures ∙ ap (λ (f : Framing). locked_by f c.framing_of-after.result) seen
+    ∙ ap (λ (f : Framing). locked_by (framing_of n) f) c.framing_of-after.ensures in
+    let next = next-call n a.frame.now a.piece.now a.area.now a.led c.requires in
+    lock_told n a.frame.now a.piece.now a.area.now _ next _ _ _ _ c.call-part.ensures _ told

@@ -1,0 +1,10 @@
+-- `lookup::halve` meets its contract: at each turn halving from here on is the whole search, with the looks so far added. Assumes nothing.
+use Prim.Native.Nat.{◌-◌}
+use Rattle.lookup.proofs.Halving.{Turn}
+use Rattle.lookup.proofs.halve.Given as goal
+
+abbrev pub invariant-loop-low : goal.invariant-loop-low
+invariant-loop-low l = Turn l.instants l.wanted l.low l.high l.looks
+
+abbrev pub decreases-loop-low : goal.decreases-loop-low
+decreases-loop-low l = l.high - l.low

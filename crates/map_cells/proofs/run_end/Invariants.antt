@@ -1,0 +1,13 @@
+-- `map_cells::run_end` meets its contract: the cells passed are equal. Assumes nothing.
+use mathlib.Core.Path.{◌≡◌, refl, sym, ◌∙◌}
+use Prim.Native.Nat.{ℕ, ◌-◌, ◌≤◌}
+use native.Mathlib.Omega.{arith}
+use lib.ListN.{get_or}
+use Rattle.map_cells.proofs.Cells.{Alike, alike-begin, alike_next, alike-stopped, alike-ended}
+use Rattle.map_cells.proofs.run_end.Given as goal
+
+abbrev pub invariant-loop-i : goal.invariant-loop-i
+invariant-loop-i l = Alike l.cells l.from l.end l.i
+
+abbrev pub decreases-loop-i : goal.decreases-loop-i
+decreases-loop-i l = l.end - l.i

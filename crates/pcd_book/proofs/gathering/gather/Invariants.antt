@@ -1,0 +1,15 @@
+-- `pcd_book::gathering::gather` meets its contract: each turn that goes on has read more frames. Assumes nothing.
+use mathlib.Core.Path.{◌≡◌, refl, sym, ◌∙◌}
+use Prim.Native.Nat.{◌-◌, ◌^◌}
+use native.Mathlib.Omega.{arith}
+use borrow.Author.Tests.{not-false}
+use lib.ListN.{length}
+use Rattle.pcd_book.specs.Shelves.{Fits, Kept}
+use Rattle.pcd_book.proofs.Laws.{fits-as, none_kept}
+use Rattle.pcd_book.proofs.gathering.gather.Given as goal
+
+abbrev pub invariant-loop-shelf : goal.invariant-loop-shelf
+invariant-loop-shelf l = Fits (length l.initial.bodies) l.shelf × (length l.bodies ≡ length l.initial.bodies) × Kept l.year l.bodies l.shelf
+
+abbrev pub decreases-loop-shelf : goal.decreases-loop-shelf
+decreases-loop-shelf l = 2 ^ 64 - l.shelf.frames

@@ -1,0 +1,14 @@
+-- `pcd_book_compare::in_small_rooms` ends: the room has its length. Assumes nothing.
+use mathlib.Core.Path.{sym}
+use Prim.Native.Nat.{ℕ}
+use lib.ListN.{length-replicate}
+use Rattle.pcd_book_compare.proofs.in_small_rooms.Goals as goal
+
+pub slice_bounds-first-end : goal.slice_bounds-first-end
+slice_bounds-first-end c = sym (length-replicate {A = ℕ} 2097541 0)
+
+pub read_first_small-requires : goal.read_first_small-requires
+read_first_small-requires c = tt
+
+pub returns : goal.returns
+returns c = tt

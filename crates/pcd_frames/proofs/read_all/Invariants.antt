@@ -1,0 +1,11 @@
+-- `pcd_frames::read_all` meets its contract: at each turn all that is paid is written, and the turns that are left fall. Assumes nothing.
+use native.Mathlib.Omega.{arith}
+use Rattle.frames_state.specs.Frames.{AllWritten}
+use Rattle.pcd_frames.proofs.Laws.{all_read}
+use Rattle.pcd_frames.proofs.read_all.Given as goal
+
+abbrev pub invariant-loop-turns : goal.invariant-loop-turns
+invariant-loop-turns l = AllWritten l.s l.area
+
+abbrev pub decreases-loop-turns : goal.decreases-loop-turns
+decreases-loop-turns l = l.turns

@@ -1,0 +1,12 @@
+-- `pcd_map::picture::show_rows` ends: a row comes nearer to the last one. Assumes nothing.
+use mathlib.Core.Path.{◌≡◌, refl}
+use Prim.Native.Nat.{◌-◌, ◌<◌}
+use native.Mathlib.Omega.{arith}
+use lib.ListN.{length}
+use Rattle.pcd_map.proofs.picture.show_rows.Given as goal
+
+abbrev pub invariant-loop-row : goal.invariant-loop-row
+invariant-loop-row l = (l.row < 257) × (length l.text ≡ length l.initial.text)
+
+abbrev pub decreases-loop-row : goal.decreases-loop-row
+decreases-loop-row l = 257 - l.row

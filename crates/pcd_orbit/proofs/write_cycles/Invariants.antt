@@ -1,0 +1,13 @@
+-- `pcd_orbit::write_cycles` ends: with each cycle more frames are read. Assumes nothing.
+use mathlib.Core.Path.{◌≡◌, refl}
+use Prim.Native.Nat.{◌-◌, ◌^◌, ◌≤◌}
+use native.Mathlib.Omega.{arith}
+use borrow.Author.Tests.{not-false}
+use lib.ListN.{length}
+use Rattle.pcd_orbit.proofs.write_cycles.Given as goal
+
+abbrev pub invariant-loop-read : goal.invariant-loop-read
+invariant-loop-read l = (length l.area ≡ length l.initial.area) × (l.cycle ≤ l.frames)
+
+abbrev pub decreases-loop-read : goal.decreases-loop-read
+decreases-loop-read l = 2 ^ 64 - l.frames

@@ -1,0 +1,45 @@
+-- `relock_crossing::stepped` meets its contract: the call where no lock awaits its word, the step at a lock, or a refusal. Assumes nothing.
+use mathlib.Core.Bool.{false}
+use mathlib.Core.Path.{refl, sym, ◌∙◌}
+use native.Mathlib.Omega.{arith}
+use borrow.Author.Tests.{eqb-true}
+use Rattle.in_place.proofs.Laws.{both}
+use Rattle.relocking.proofs.Moves.{reads_all}
+use Rattle.relock_crossing.proofs.Steps.{ready_none, step_reads, called-else, refused-so}
+use Rattle.relock_crossing.proofs.stepped.Goals as goal
+use Rattle.relock_crossing.proofs.stepped.Goals.{Start}
+
+-- past the cheap test
+module _ (c : Start) where
+
+pub returns-then-awaits-fit : goal.returns-then-awaits-fit
+returns-then-awaits-fit c =
+    let tests = both _ _ c.if-awaits-fit.true in
+    let fit = c.fits-fit.ensures.fit tests.1 in
+    let awaits = eqb-true _ _ tests.0 in
+    let piece = c.args.piece.now in
+    rw c.read.ensures
+    (step_reads _ _ _ piece _ _ (ready_none _ _ _ _ awaits fit.0 fit.1) piece (omega arith) false _ _ _ _ c.take_to_lock-r.ensures
+    (λ a. reads_all _ piece _ _ a (rw awaits refl)))
+
+pub at_lock-requires : goal.at_lock-requires
+at_lock-requires c =
+    let tests = both _ _ c.if-awaits-fit-2.true in
+    let first = both _ _ tests.0 in
+    let fit = c.fits-fit.ensures.fit first.1 in
+    record {
+      awaits = eqb-true _ _ first.0;
+      stands = sym (c.stands.ensures c.args.frame.now) ∙ tests.1;
+      few = fit.0;
+      fits = fit.1;
+    }
+
+pub returns : goal.returns
+returns c =
+    let a = c.args in
+    let number = c.refusal-number.ensures in
+    let stands = c.stands.ensures a.frame.now in
+    rw c.refused.ensures
+    (refused-so _ _ _ a.piece.now a.ends a.area.now _ number
+    (λ z. called-else _ _ _ a.piece.now a.ends a.area.now (sym number ∙ z) _ _ c.fits-fit.ensures stands
+    c.if-awaits-fit.false c.if-awaits-fit-2.false))

@@ -1,0 +1,30 @@
+use Prim.Native.Nat.{◌-◌, ◌≤◌}
+use native.Mathlib.Omega.{arith}
+use Rattle.relock_vectors.proofs.every_cut.Goals as goal
+
+pub loop-k-init : goal.loop-k-init
+loop-k-init c = omega arith
+
+pub overflow_mul-start : goal.overflow_mul-start
+overflow_mul-start c = omega arith
+
+pub overflow_add-end : goal.overflow_add-end
+overflow_add-end c = omega arith
+
+pub slice_bounds-one_cut-count : goal.slice_bounds-one_cut-count
+slice_bounds-one_cut-count c = omega arith
+
+pub slice_bounds-one_cut-start : goal.slice_bounds-one_cut-start
+slice_bounds-one_cut-start c = omega arith
+
+pub slice_bounds-one_cut-end : goal.slice_bounds-one_cut-end
+slice_bounds-one_cut-end c = omega arith
+
+pub overflow_add-k : goal.overflow_add-k
+overflow_add-k c = omega arith
+
+pub loop-k-smaller : goal.loop-k-smaller
+loop-k-smaller c = omega arith
+
+pub loop-k-preserved : goal.loop-k-preserved
+loop-k-preserved c = omega arith

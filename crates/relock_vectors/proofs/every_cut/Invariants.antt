@@ -1,0 +1,10 @@
+-- `relock_vectors::every_cut` is safe and ends: each of the eight lengths stands in the list. Assumes nothing.
+use Prim.Native.Nat.{◌-◌, ◌≤◌}
+use native.Mathlib.Omega.{arith}
+use Rattle.relock_vectors.proofs.every_cut.Given as goal
+
+abbrev pub invariant-loop-k : goal.invariant-loop-k
+invariant-loop-k l = 0 ≤ l.k
+
+abbrev pub decreases-loop-k : goal.decreases-loop-k
+decreases-loop-k l = 8 - l.k

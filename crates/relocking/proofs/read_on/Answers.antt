@@ -1,0 +1,20 @@
+-- `relocking::read_on` meets its contract: the call's own promise. Assumes nothing.
+use mathlib.Core.Path.{◌≡◌, ap}
+use mathlib.Core.Bool.{Bool, ◌||◌}
+use Rattle.labelling.specs.Calls.{take_refusal}
+use Rattle.reader.specs.Shapes.{call_of}
+use Rattle.relocking.proofs.Relocking.{call-accepted, locked-so, called-so}
+use Rattle.relocking.proofs.read_on.Goals as goal
+use Rattle.relocking.proofs.read_on.Goals.{After-take_to_lock-r}
+
+-- after the call
+module _ (w : After-take_to_lock-r) where
+  accepted : take_refusal (call_of w.args.f.tally w.args.part.now w.args.area.now) ≡ 0
+  accepted = call-accepted w.args.f w.args.part.now w.args.area.now w.requires
+
+pub returns : goal.returns
+returns c =
+    let s = start (goal.at.returns c).After-take_to_lock-r in
+    let l = c.take_to_lock-r.result in
+    called-so _ (accepted (goal.at.returns c).After-take_to_lock-r) l _ c.take_to_lock-r.ensures (s.args.waits || l.locked) _ s.args.f.handed
+    (ap (λ (x : Bool). s.args.waits || x) (locked-so _ (accepted (goal.at.returns c).After-take_to_lock-r) l _ c.take_to_lock-r.ensures))

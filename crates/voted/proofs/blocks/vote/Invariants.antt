@@ -1,0 +1,16 @@
+-- `voted::blocks::vote` meets its contract: one lane more at each turn. Assumes nothing.
+use mathlib.Core.Path.{◌≡◌, ◌∙◌}
+use Prim.Native.Nat.{◌*◌, ◌-◌, ◌≤◌, ◌<◌}
+use native.Mathlib.Omega.{arith}
+use lib.Dec.{eqb}
+use Rattle.voted.specs.Copies.{Copies}
+use Rattle.voted.specs.Lanes.{Columns, columns, lane, lanes}
+use Rattle.voted.proofs.Agreeing.{one-few}
+use Rattle.voted.proofs.Lanes.{total-sides, Voting, voting_none, voting_more}
+use Rattle.voted.proofs.blocks.vote.Given as goal
+
+abbrev pub invariant-loop-k : goal.invariant-loop-k
+invariant-loop-k l = Voting (columns l.initial.first l.second l.third) (16 * l.vectors) l.first l.x l.y l.z l.none l.k
+
+abbrev pub decreases-loop-k : goal.decreases-loop-k
+decreases-loop-k l = 16 * l.vectors - l.k

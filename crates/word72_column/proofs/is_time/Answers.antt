@@ -1,0 +1,15 @@
+-- `word72_column::is_time` meets its contract: seven bytes that the time codec accepts in a year of the span are a good time code of it, by
+-- its own definition. Assumes nothing.
+use mathlib.Core.Path.{ap, ◌∙◌}
+use Rattle.word72_column.proofs.Answers.{accepted, time_accepted}
+use Rattle.word72_column.proofs.is_time.Goals as goal
+
+pub returns-in-Time : goal.returns-in-Time
+returns-in-Time c =
+    ap accepted c.in-Time.ensures.answer
+    ∙ time_accepted c.args.year c.args.bytes.now c.requires.0 c.requires.1
+
+pub returns-in-Refused : goal.returns-in-Refused
+returns-in-Refused c =
+    ap accepted c.in-Refused.ensures.answer
+    ∙ time_accepted c.args.year c.args.bytes.now c.requires.0 c.requires.1

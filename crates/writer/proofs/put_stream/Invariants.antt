@@ -1,0 +1,14 @@
+-- `writer::put_stream` meets its contract: after i turns the slice holds the stream of the first i bytes. Assumes nothing.
+use native.Mathlib.Omega.{arith}
+use mathlib.Core.Path.{◌≡◌, refl, sym, ◌∙◌}
+use Prim.Native.Nat.{◌+◌, ◌*◌, ◌-◌, ◌≤◌}
+use lib.ListN.{length}
+use borrow.Rule.Slice.PartMut.{mid_len}
+use Rattle.writer.proofs.Putting.{Holds, holds-none, holds-put, room_left, holds-all}
+use Rattle.writer.proofs.put_stream.Given as goal
+
+abbrev pub invariant-loop-i : goal.invariant-loop-i
+invariant-loop-i l = Holds l.step l.bytes l.initial.out l.i l.out × (l.at ≡ l.i * l.step) × (l.i ≤ length l.bytes) × (length l.out ≡ length l.initial.out)
+
+abbrev pub decreases-loop-i : goal.decreases-loop-i
+decreases-loop-i l = length l.bytes - l.i

@@ -1,0 +1,49 @@
+use mathlib.Core.Path.{◌≡◌, refl, ◌∙◌}
+use Prim.Native.Nat.{◌-◌}
+use native.Mathlib.Omega.{arith}
+use lib.ListN.{length}
+use Rattle.writer_vectors.proofs.reel.read_reel.Goals as goal
+use Rattle.writer_vectors.proofs.reel.read_reel.Goals.{After-answered-r, After-step-s}
+
+-- the step whose answer was looked at: the area came back, and its answer was copied
+abbrev stepped : After-answered-r → After-step-s
+stepped answered =
+    let copied = answered.before.before in
+    let returned = copied.before.before in
+    returned.before
+
+pub fresh-r-requires : goal.fresh-r-requires
+fresh-r-requires c = tt
+
+pub loop-at-init : goal.loop-at-init
+loop-at-init c = refl
+
+pub step-s-requires : goal.step-s-requires
+step-s-requires c = tt
+
+pub answered-r-requires : goal.answered-r-requires
+answered-r-requires c = tt
+
+pub shape_of-area-then-a-ne0 : goal.shape_of-area-then-a-ne0
+shape_of-area-then-a-ne0 c =
+    let w = stepped (goal.at.shape_of-area-then-a-ne0 c).After-answered-r in
+    w.step.kept.1.1.1.1.0 ∙ (turn w).before.loop.inv
+
+pub returns-then-a-ne0 : goal.returns-then-a-ne0
+returns-then-a-ne0 c = tt
+
+pub loop-at-smaller : goal.loop-at-smaller
+loop-at-smaller c =
+    let w = stepped (goal.at.loop-at-smaller c).After-answered-r in
+    omega (arith, w.step.ensures.onward c.if-a-ne0.false (turn w).loop-test.taken)
+
+pub loop-at-preserved : goal.loop-at-preserved
+loop-at-preserved c =
+    let w = stepped (goal.at.loop-at-preserved c).After-answered-r in
+    w.step.kept.1.1.1.1.0 ∙ (turn w).before.loop.inv
+
+pub shape_of-area : goal.shape_of-area
+shape_of-area c = c.loop-at.invariant
+
+pub returns : goal.returns
+returns c = tt
