@@ -1,6 +1,7 @@
 -- What a room holds whose part from a place on was lent to a read. Assumes nothing.
 use mathlib.Core.Path.{◌≡◌, sym, ◌∙◌}
-use mathlib.Core.Bool.{Bool}
+use Rattle.std.specs.Prelude.{Option}
+use Rattle.std.specs.declared.io.Error.{Error}
 use mathlib.Core.List.{List}
 use Prim.Native.Nat.{ℕ, ◌+◌, ◌-◌, ◌≤◌, ◌<◌}
 use native.Mathlib.Omega.{arith}
@@ -38,7 +39,7 @@ module _ (old : List ℕ) (from : ℕ) (room : List ℕ) (end : ℕ) (k : Kept o
     beyond = omega (arith, k.beyond);
   }
 
-  pub kept-done : (failed : Bool) → FillPromise old from (refilled room end part) (record { length = end; failed = failed })
+  pub kept-done : (failed : Option Error) → FillPromise old from (refilled room end part) (record { length = end; failed = failed })
   kept-done failed = record {
     size_is = same_size;
     front_stays = kept_on.front_stays;
@@ -46,7 +47,7 @@ module _ (old : List ℕ) (from : ℕ) (room : List ℕ) (end : ℕ) (k : Kept o
     beyond = λ _. k.beyond;
   }
 
-pub kept_full : (old : List ℕ) (from : ℕ) (room : List ℕ) (end : ℕ) → Kept old from room end → (failed : Bool)
+pub kept_full : (old : List ℕ) (from : ℕ) (room : List ℕ) (end : ℕ) → Kept old from room end → (failed : Option Error)
     → FillPromise old from room (record { length = length room; failed = failed })
 kept_full old from room end k failed = record {
   size_is = k.size_is;

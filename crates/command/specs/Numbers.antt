@@ -1,5 +1,5 @@
 -- A number as an argument names it. Definitions only.
-use Rattle.std.specs.Prelude.{Bool, true, false, cond, ◌&&◌, not, List, [], ◌∷◌, ℕ, ◌+◌, ◌-◌, ◌*◌, leb, ltb, eqb, length}
+use Rattle.std.specs.Prelude.{Bool, true, cond, ◌&&◌, List, [], ◌∷◌, ℕ, ◌+◌, ◌-◌, ◌*◌, leb, ltb, length}
 use Rattle.command.specs.declared.numbers.Parsed.{Parsed}
 use Rattle.command.specs.declared.numbers.Parsed.TheVariants.{Value, NotANumber}
 

@@ -39,7 +39,7 @@ the frames to go on are more than 2^24 - 1
 
 // What a refusal number means; nothing for a number that is none.
 pub fn put_words(out: &mut [u8], at: usize, number: u8) -> usize
-    ensures { Adds out.old at (refusalWords number) out.new result }
+    ensures { Adds out.old at (refusal_words number) out.new result }
 {
     let table = &WORDS;
     text::put(out, at, lines::line(table, number as usize))

@@ -63,7 +63,7 @@ const SECOND: u64 = 16_000;
 
 // The line of a value that is a double; of a refused record it has no value.
 pub fn put_double_row(out: &mut [u8], at: usize, row: Row, name: usize, value: f64) -> usize
-    ensures { Adds out.old at (doubleRow row name value) out.new result }
+    ensures { Adds out.old at (double_row row name value) out.new result }
 {
     let begun = put_start(&mut *out, at, row, name);
     if row.refusal != 0 {
@@ -75,7 +75,7 @@ pub fn put_double_row(out: &mut [u8], at: usize, row: Row, name: usize, value: f
 
 // The line of a value that is an integer; of a refused record it has no value.
 pub fn put_integer_row(out: &mut [u8], at: usize, row: Row, name: usize, value: i64) -> usize
-    ensures { Adds out.old at (integerRow row name value) out.new result }
+    ensures { Adds out.old at (integer_row row name value) out.new result }
 {
     let begun = put_start(&mut *out, at, row, name);
     if row.refusal != 0 {
@@ -86,7 +86,7 @@ pub fn put_integer_row(out: &mut [u8], at: usize, row: Row, name: usize, value: 
 }
 
 fn put_start(out: &mut [u8], at: usize, row: Row, name: usize) -> usize
-    ensures { Adds out.old at (startText row name) out.new result }
+    ensures { Adds out.old at (start_text row name) out.new result }
 {
     let names = &NAMES;
     let counted = put_number(&mut *out, at, row.cycle);
@@ -95,14 +95,14 @@ fn put_start(out: &mut [u8], at: usize, row: Row, name: usize) -> usize
 }
 
 fn put_end(out: &mut [u8], at: usize, row: Row) -> usize
-    ensures { Adds out.old at (endText row) out.new result }
+    ensures { Adds out.old at (end_text row) out.new result }
 {
     let refused = put_refusal(&mut *out, at, row.refusal as u64);
     put_when(out, refused, row.year, row.instant)
 }
 
 fn put_refusal(out: &mut [u8], at: usize, number: u64) -> usize
-    ensures { Adds out.old at (refusalText number) out.new result }
+    ensures { Adds out.old at (refusal_text number) out.new result }
 {
     if number == 0 {
         return put_byte(out, at, b',');
@@ -112,7 +112,7 @@ fn put_refusal(out: &mut [u8], at: usize, number: u64) -> usize
 
 // The instant as a number and in the fields of a time code; eight empty fields where there is none.
 fn put_when(out: &mut [u8], at: usize, year: u64, instant: u64) -> usize
-    ensures { Adds out.old at (whenText year instant) out.new result }
+    ensures { Adds out.old at (when_text year instant) out.new result }
 {
     if instant == 0 {
         return put(out, at, b",,,,,,,,\n");

@@ -29,7 +29,7 @@ const FORMS: [u8; 54] = *b"\
 // Puts the lines of the items of a frame's column, recorded in a year; frames are counted from 0. Of a column of no kind there is one line, with
 // the refusal. A line has fewer than 1,000 bytes and no kind more than 62 items: 65,536 bytes are room enough.
 pub fn put_frame(out: &mut [u8], year: u64, frame: u64, column: &[u8]) -> usize
-    ensures { Adds out.old 0 (frameText year frame column.now) out.new result }
+    ensures { Adds out.old 0 (frame_text year frame column.now) out.new result }
 {
     match subcom::kind(year, column) {
         ColumnKind::Kind(kind) => {
@@ -43,7 +43,7 @@ pub fn put_frame(out: &mut [u8], year: u64, frame: u64, column: &[u8]) -> usize
 
 // The items of a kind, in order.
 fn put_items(out: &mut [u8], year: u64, frame: u64, column: &[u8], kind: u64) -> usize
-    ensures { Adds out.old 0 (itemLines year frame column.now kind (countIn (counted kind))) out.new result }
+    ensures { Adds out.old 0 (item_lines year frame column.now kind (count_in (counted kind))) out.new result }
 {
     let count = count_of(kind);
     let mut end = 0;
@@ -57,7 +57,7 @@ fn put_items(out: &mut [u8], year: u64, frame: u64, column: &[u8], kind: u64) ->
 
 // How many items a kind has; none where there is no such kind.
 fn count_of(kind: u64) -> u64
-    ensures { result ≡ countIn (counted kind) }
+    ensures { result ≡ count_in (counted kind) }
 {
     match subcom::item_count(kind) {
         ItemCount::Items(n) => n,
@@ -75,7 +75,7 @@ fn put_item(
     kind: u64,
     item: u64,
 ) -> usize
-    ensures { Adds out.old at (itemLine year frame column.now kind item) out.new result }
+    ensures { Adds out.old at (item_line year frame column.now kind item) out.new result }
 {
     match subcom::describe(kind, item) {
         Description::Found(found) => {
@@ -100,7 +100,7 @@ fn put_item(
 
 // The line of a frame that has no items, with the refusal of its kind.
 fn put_refused_frame(out: &mut [u8], at: usize, frame: u64, number: u8) -> usize
-    ensures { Adds out.old at (refusedFrame frame number) out.new result }
+    ensures { Adds out.old at (refused_frame frame number) out.new result }
 {
     let counted = put_number(&mut *out, at, frame);
     let none = put(&mut *out, counted, b",,,,,,");

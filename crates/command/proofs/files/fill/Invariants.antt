@@ -1,13 +1,10 @@
--- `command::files::fill` meets its contract: what stands before the part that a read is lent stays. Assumes nothing.
-use Prim.Native.Nat.{◌-◌}
-use mathlib.Core.Path.{refl}
-use lib.ListN.{length}
-use Rattle.command.proofs.FileLaws.{Kept, same_size, fits, kept_on, kept-done, kept_full}
-use native.Mathlib.Omega.{arith}
+-- What stands before the part that a read is lent stays.
+use Rattle.std.proofs.Common.{length, ◌-◌}
+use Rattle.command.proofs.FileLaws.{Kept}
 use Rattle.command.proofs.files.fill.Given as goal
 
 abbrev pub invariant-loop-end : goal.invariant-loop-end
-invariant-loop-end l = Kept l.initial.room l.from l.room l.end
+invariant-loop-end g l = Kept l.initial.room l.from l.room l.end
 
 abbrev pub decreases-loop-end : goal.decreases-loop-end
-decreases-loop-end l = length l.room - l.end
+decreases-loop-end g l = length l.room - l.end

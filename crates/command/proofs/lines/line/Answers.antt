@@ -1,8 +1,6 @@
 use mathlib.Core.Path.{◌≡◌, ◌∙◌}
-use Prim.Native.Nat.{◌≤◌, ◌-◌}
+use Prim.Native.Nat.{◌-◌}
 use native.Mathlib.Omega.{arith}
-use lib.ListN.{length, drop}
-use Rattle.command.specs.Lines.{line_in}
 use Rattle.command.proofs.LineLaws.{line_later, line_here}
 use Rattle.command.proofs.lines.line.Goals as goal
 

@@ -1,10 +1,8 @@
 -- `command::lines::line` meets its contract: line n is line n - k from the start of line k on. Assumes nothing.
-use mathlib.Core.Path.{◌≡◌, ◌∙◌}
+use mathlib.Core.Path.{◌≡◌}
 use Prim.Native.Nat.{◌≤◌, ◌-◌}
-use native.Mathlib.Omega.{arith}
 use lib.ListN.{length, drop}
 use Rattle.command.specs.Lines.{line_in}
-use Rattle.command.proofs.LineLaws.{line_later, line_here}
 use Rattle.command.proofs.lines.line.Given as goal
 
 abbrev pub invariant-loop-k : goal.invariant-loop-k

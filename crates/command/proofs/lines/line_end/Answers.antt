@@ -1,7 +1,5 @@
-use Prim.Native.Nat.{◌-◌}
 use native.Mathlib.Omega.{arith}
-use lib.ListN.{length}
-use Rattle.command.proofs.LineLaws.{Scanned, scan_begins, scan_goes_on, scan_stops, scan_ends}
+use Rattle.command.proofs.LineLaws.{scan_begins, scan_goes_on, scan_stops, scan_ends}
 use Rattle.command.proofs.lines.line_end.Goals as goal
 
 pub loop-end-init : goal.loop-end-init

@@ -1,8 +1,7 @@
 -- `command::lines::line_end` meets its contract. Assumes nothing.
 use Prim.Native.Nat.{◌-◌}
-use native.Mathlib.Omega.{arith}
 use lib.ListN.{length}
-use Rattle.command.proofs.LineLaws.{Scanned, scan_begins, scan_goes_on, scan_stops, scan_ends}
+use Rattle.command.proofs.LineLaws.{Scanned}
 use Rattle.command.proofs.lines.line_end.Given as goal
 
 abbrev pub invariant-loop-end : goal.invariant-loop-end

@@ -1,7 +1,6 @@
 -- `command::numbers::digit` meets its contract. Assumes nothing.
 use mathlib.Core.Path.{sym, ◌∙◌}
 use Rattle.command.proofs.NumberLaws.{digit-large}
-use native.Mathlib.Omega.{arith}
 use Rattle.command.proofs.numbers.digit.Goals as goal
 
 pub overflow_sub-result : goal.overflow_sub-result

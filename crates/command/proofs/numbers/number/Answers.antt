@@ -1,9 +1,7 @@
 use mathlib.Core.Path.{sym, ◌∙◌}
-use lib.ListN.{length, get_or}
-use borrow.Author.Tests.{not-true, not-false}
-use Prim.Native.Nat.{◌-◌}
+use lib.ListN.{get_or}
 use native.Mathlib.Omega.{arith}
-use Rattle.command.proofs.NumberLaws.{Read, none_read, room, digit-small, one_more, other_byte, whole-number, empty-is_none, long_is_none}
+use Rattle.command.proofs.NumberLaws.{none_read, room, digit-small, one_more, other_byte, whole-number, empty-is_none, long_is_none}
 use Rattle.command.proofs.numbers.number.Goals as goal
 
 pub returns-then-text-eq0 : goal.returns-then-text-eq0
@@ -23,7 +21,7 @@ is_digit-requires c = tt
 
 pub returns-then-not-is_digit : goal.returns-then-not-is_digit
 returns-then-not-is_digit c =
-    other_byte _ _ _ c.loop-i.invariant c.loop-i-test.true (sym c.is_digit.ensures ∙ not-true _ c.if-not-is_digit.true)
+    other_byte _ _ _ c.loop-i.invariant c.loop-i-test.true (sym c.is_digit.ensures ∙ c.if-not-is_digit.true)
 
 pub overflow_mul-n : goal.overflow_mul-n
 overflow_mul-n c =
@@ -47,7 +45,7 @@ loop-i-smaller c = omega arith
 
 pub loop-i-preserved : goal.loop-i-preserved
 loop-i-preserved c =
-    let digit = sym c.is_digit.ensures ∙ not-false _ c.if-not-is_digit.false in
+    let digit = sym c.is_digit.ensures ∙ c.if-not-is_digit.false in
     rw c.digit.ensures (one_more _ _ _ c.loop-i.invariant c.loop-i-test.true digit)
 
 pub returns : goal.returns

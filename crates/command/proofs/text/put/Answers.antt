@@ -1,8 +1,5 @@
-use Prim.Native.Nat.{◌≤◌, ◌-◌}
 use native.Mathlib.Omega.{arith}
-use lib.ListN.{length, take}
 use lib.Seq.{take_all}
-use Rattle.command.specs.Text.{Adds}
 use Rattle.command.proofs.TextLaws.{adds_one_more}
 use Rattle.command.proofs.text.put.Goals as goal
 
@@ -26,14 +23,12 @@ loop-i-smaller c = omega arith
 
 pub loop-i-preserved : goal.loop-i-preserved
 loop-i-preserved c =
-    let start = looped.before.before.before.before.before in
     let so_far = c.loop-i.invariant.1 in
-    (omega arith, adds_one_more start.args.text.now c.loop-i.i c.loop-i-test.true so_far c.put_byte-end.ensures)
+    (omega arith, adds_one_more c.args.text.now c.loop-i.i c.loop-i-test.true so_far c.put_byte-end.ensures)
 
 pub shape_of-out : goal.shape_of-out
 shape_of-out c = c.loop-i.invariant.1.size_is
 
 pub returns : goal.returns
 returns c =
-    let start = c.before.before.before.before.before.before in
-    rw (take_all c.loop-i.i start.args.text.now c.loop-i-test.false) at c.loop-i.invariant.1
+    rw (take_all c.loop-i.i c.args.text.now c.loop-i-test.false) at c.loop-i.invariant.1

@@ -1,10 +1,7 @@
 -- `command::text::put` meets its contract: so much of the slice is put as was passed. Assumes nothing.
 use Prim.Native.Nat.{◌≤◌, ◌-◌}
-use native.Mathlib.Omega.{arith}
 use lib.ListN.{length, take}
-use lib.Seq.{take_all}
 use Rattle.command.specs.Text.{Adds}
-use Rattle.command.proofs.TextLaws.{adds_one_more}
 use Rattle.command.proofs.text.put.Given as goal
 
 abbrev pub invariant-loop-i : goal.invariant-loop-i

@@ -6,4 +6,4 @@ use Rattle.command.proofs.text.put_number.Goals as goal
 pub returns : goal.returns
 returns c =
     let digits = c.decimal-k.ensures in
-    rw (sym (digits_are c.args.n _ c.ranges.n.fits digits.1.0), ← digits.1.1) c.put.ensures
+    rw (sym (digits_are c.args.n _ c.ranges.n.fits digits.len), ← digits.digits) c.put.ensures
