@@ -1,11 +1,10 @@
 -- `vectors::print::fields` is safe and ends: the index stays within the slice, and what is left of it falls. Assumes nothing.
 use Prim.Native.Nat.{◌≤◌, ◌-◌}
-use native.Mathlib.Omega.{arith}
 use lib.ListN.{length}
 use Rattle.vectors.proofs.print.fields.Given as goal
 
 abbrev pub invariant-loop-i : goal.invariant-loop-i
-invariant-loop-i l = l.i ≤ length l.form
+invariant-loop-i g l = l.i ≤ length l.form
 
 abbrev pub decreases-loop-i : goal.decreases-loop-i
-decreases-loop-i l = length l.form - l.i
+decreases-loop-i g l = length l.form - l.i

@@ -1,9 +1,7 @@
 use mathlib.Core.Path.{refl}
-use Prim.Native.Nat.{◌-◌}
 use native.Mathlib.Omega.{arith}
-use lib.ListN.{length}
 use Rattle.vectors.specs.Folds.{mixed}
-use Rattle.vectors.proofs.Folding.{Folded, fold_step, fold_end}
+use Rattle.vectors.proofs.Folding.{fold_step, fold_end}
 use Rattle.vectors.proofs.sums.checksum.Goals as goal
 
 pub loop-i-init : goal.loop-i-init

@@ -1,10 +1,8 @@
 -- `vectors::sums::checksum` meets its contract: at each place, what is left folds to the checksum of all. Assumes nothing.
-use mathlib.Core.Path.{refl}
 use Prim.Native.Nat.{◌-◌}
-use native.Mathlib.Omega.{arith}
 use lib.ListN.{length}
 use Rattle.vectors.specs.Folds.{mixed}
-use Rattle.vectors.proofs.Folding.{Folded, fold_step, fold_end}
+use Rattle.vectors.proofs.Folding.{Folded}
 use Rattle.vectors.proofs.sums.checksum.Given as goal
 
 abbrev pub invariant-loop-i : goal.invariant-loop-i

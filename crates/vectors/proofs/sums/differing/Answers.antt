@@ -1,9 +1,9 @@
 use mathlib.Core.List.{List}
-use Prim.Native.Nat.{ℕ, ◌≤◌, ◌-◌}
+use Prim.Native.Nat.{ℕ, ◌≤◌}
 use native.Mathlib.Omega.{arith}
-use lib.ListN.{length, drop}
+use lib.ListN.{drop}
 use Rattle.vectors.specs.Folds.{differ}
-use Rattle.vectors.proofs.Folding.{Counted, one_at_most, counted_step, differ-step, differ-end}
+use Rattle.vectors.proofs.Folding.{one_at_most, counted_step, differ-step, differ-end}
 use Rattle.vectors.proofs.sums.differing.Goals as goal
 
 abbrev left : List ℕ → List ℕ → ℕ → ℕ

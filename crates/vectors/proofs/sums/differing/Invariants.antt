@@ -1,14 +1,12 @@
 -- `vectors::sums::differing` meets its contract: what is counted and what is left to count come to the count of all. Assumes nothing.
-use mathlib.Core.List.{List}
-use Prim.Native.Nat.{ℕ, ◌≤◌, ◌-◌}
-use native.Mathlib.Omega.{arith}
+use Prim.Native.Nat.{◌-◌}
 use lib.ListN.{length, drop}
 use Rattle.vectors.specs.Folds.{differ}
-use Rattle.vectors.proofs.Folding.{Counted, one_at_most, counted_step, differ-step, differ-end}
+use Rattle.vectors.proofs.Folding.{Counted}
 use Rattle.vectors.proofs.sums.differing.Given as goal
 
 abbrev pub invariant-loop-i : goal.invariant-loop-i
-invariant-loop-i l = Counted (left l.a l.b) (length l.a) l.n l.i
+invariant-loop-i l = Counted (λ i. differ (drop i l.a) (drop i l.b)) (length l.a) l.n l.i
 
 abbrev pub decreases-loop-i : goal.decreases-loop-i
 decreases-loop-i l = length l.a - l.i
