@@ -1,7 +1,7 @@
 -- A field's bytes one by one: whether one needs quotes, and what is put within them. Assumes nothing.
-use mathlib.Core.Path.{◌≡◌, refl, sym, ap, ◌∙◌}
+use mathlib.Core.Path.{◌≡◌, refl}
 use mathlib.Core.Bool.{Bool, true, false}
-use mathlib.Core.List.{List, [], ◌∷◌, ◌++◌, append-nil}
+use mathlib.Core.List.{List, ◌++◌, append-nil}
 use Prim.Native.Nat.{ℕ, suc, ◌+◌, ◌-◌, ◌^◌, ◌≤◌, ◌<◌}
 use native.Mathlib.Numerals.{add-one}
 use native.Mathlib.Omega.{arith}
@@ -50,7 +50,7 @@ doubles_none {new} {b} p text = adds_within new b p.0
 -- the test of the code, said of the integer
 module _ (z : ℤ) (h : mag z < 2 ^ 63) where
   same : to_z w64 (of_z w64 z) ≡ z
-  same = to_z-of_z (record { sfits = h })
+  same = to_z-of_z {w = w64} (record { sfits = h })
 
   pub test_is : {b : Bool} → lt_z (to_z w64 (of_z w64 z)) (pos 0) ≡ b → lt_z z (pos 0) ≡ b
   test_is e = rw same at e

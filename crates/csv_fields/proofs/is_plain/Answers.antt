@@ -1,8 +1,5 @@
-use mathlib.Core.Path.{◌≡◌, refl, sym, ◌∙◌}
-use Prim.Native.Nat.{◌-◌, ◌≤◌}
+use mathlib.Core.Path.{refl, sym, ◌∙◌}
 use native.Mathlib.Omega.{arith}
-use lib.ListN.{length, drop}
-use Rattle.csv_fields.specs.Fields.{is_plain}
 use Rattle.csv_fields.proofs.Laws.{plain_goes_on, special_ends, plain_ends}
 use Rattle.csv_fields.proofs.is_plain.Goals as goal
 

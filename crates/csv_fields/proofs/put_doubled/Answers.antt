@@ -1,11 +1,7 @@
-use mathlib.Core.Path.{refl, ◌∙◌}
-use Prim.Native.Nat.{◌≤◌, ◌-◌}
+use mathlib.Core.Path.{◌∙◌}
 use native.Mathlib.Omega.{arith}
-use lib.ListN.{length, take}
 use lib.Seq.{take_all}
-use Rattle.command.specs.Text.{Adds}
 use Rattle.command.proofs.TextLaws.{adds_append}
-use Rattle.csv_fields.specs.Fields.{doubled}
 use Rattle.csv_fields.proofs.Laws.{doubles_none, doubles_one_more}
 use Rattle.csv_fields.proofs.put_doubled.Goals as goal
 

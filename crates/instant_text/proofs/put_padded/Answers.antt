@@ -17,6 +17,6 @@ pub returns : goal.returns
 unfolding padded
 returns c =
     let digits = c.decimal-k.ensures in
-    let text = digits.1.1 ∙ digits_are c.args.n _ c.ranges.n.fits digits.1.0 in
-    let size = sym (digits.0.1 ∙ ap (λ (l : List ℕ). length l) text) in
+    let text = digits.digits ∙ digits_are c.args.n _ c.ranges.n.fits digits.len in
+    let size = sym (digits.in_bounds.1 ∙ ap (λ (l : List ℕ). length l) text) in
     rw (size, ← c.missing_of-missing.ensures, ← text) (adds_append c.put-padded.ensures c.put.ensures)

@@ -1,9 +1,8 @@
 use mathlib.Core.Path.{◌∙◌}
-use Prim.Native.Nat.{◌-◌, ◌≤◌}
 use native.Mathlib.Omega.{arith}
-use lib.ListN.{length, length-set}
+use lib.ListN.{length-set}
 use Rattle.map_cells.specs.Cells.{pair_in}
-use Rattle.map_cells.proofs.Cells.{Upto, upto_begin, upto_next, upto_end, pair_rest}
+use Rattle.map_cells.proofs.Cells.{upto_begin, upto_next, upto_end, pair_rest}
 use Rattle.map_cells.proofs.halve.Goals as goal
 
 pub loop-i-init : goal.loop-i-init
@@ -26,7 +25,7 @@ loop-i-smaller c =
 pub loop-i-preserved : goal.loop-i-preserved
 loop-i-preserved c =
     let looped = c.loop-i in
-    let old = at-loop.before.before.args.cells.now in
+    let old = c.args.cells.now in
     let here = c.loop-i-test.true in
     let v = c.pair.result in
     let joined = c.pair.ensures ∙ pair_rest old looped.cells looped.i looped.invariant.1 in

@@ -1,10 +1,8 @@
 -- `map_cells::halve` meets its contract: the cells before place i are joined pairs, and a pair stands at i or beyond. Assumes nothing.
-use mathlib.Core.Path.{◌∙◌}
 use Prim.Native.Nat.{◌-◌, ◌≤◌}
-use native.Mathlib.Omega.{arith}
-use lib.ListN.{length, length-set}
+use lib.ListN.{length}
 use Rattle.map_cells.specs.Cells.{pair_in}
-use Rattle.map_cells.proofs.Cells.{Upto, upto_begin, upto_next, upto_end, pair_rest}
+use Rattle.map_cells.proofs.Cells.{Upto}
 use Rattle.map_cells.proofs.halve.Given as goal
 
 abbrev pub invariant-loop-i : goal.invariant-loop-i

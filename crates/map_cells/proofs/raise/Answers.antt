@@ -1,8 +1,7 @@
-use Prim.Native.Nat.{◌-◌, ◌≤◌}
 use native.Mathlib.Omega.{arith}
-use lib.ListN.{length, length-set}
+use lib.ListN.{length-set}
 use Rattle.map_cells.specs.Cells.{raised_at}
-use Rattle.map_cells.proofs.Cells.{Upto, upto_begin, upto_next, upto_end, raise_step, not_before, not_behind}
+use Rattle.map_cells.proofs.Cells.{upto_begin, upto_next, upto_end, raise_step, not_before, not_behind}
 use Rattle.map_cells.proofs.raise.Goals as goal
 
 pub loop-i-init : goal.loop-i-init

@@ -1,9 +1,8 @@
 -- `map_cells::raise` meets its contract: the cells before place i are raised as they must be. Assumes nothing.
 use Prim.Native.Nat.{◌-◌, ◌≤◌}
-use native.Mathlib.Omega.{arith}
-use lib.ListN.{length, length-set}
+use lib.ListN.{length}
 use Rattle.map_cells.specs.Cells.{raised_at}
-use Rattle.map_cells.proofs.Cells.{Upto, upto_begin, upto_next, upto_end, raise_step, not_before, not_behind}
+use Rattle.map_cells.proofs.Cells.{Upto}
 use Rattle.map_cells.proofs.raise.Given as goal
 
 abbrev pub invariant-loop-i : goal.invariant-loop-i

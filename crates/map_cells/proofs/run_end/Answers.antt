@@ -1,8 +1,6 @@
-use mathlib.Core.Path.{◌≡◌, refl, sym, ◌∙◌}
-use Prim.Native.Nat.{ℕ, ◌-◌, ◌≤◌}
+use mathlib.Core.Path.{sym, ◌∙◌}
 use native.Mathlib.Omega.{arith}
-use lib.ListN.{get_or}
-use Rattle.map_cells.proofs.Cells.{Alike, alike-begin, alike_next, alike-stopped, alike-ended}
+use Rattle.map_cells.proofs.Cells.{alike-begin, alike_next, alike-stopped, alike-ended}
 use Rattle.map_cells.proofs.run_end.Goals as goal
 
 pub at-class-requires : goal.at-class-requires

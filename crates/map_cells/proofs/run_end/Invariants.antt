@@ -1,9 +1,6 @@
 -- `map_cells::run_end` meets its contract: the cells passed are equal. Assumes nothing.
-use mathlib.Core.Path.{◌≡◌, refl, sym, ◌∙◌}
-use Prim.Native.Nat.{ℕ, ◌-◌, ◌≤◌}
-use native.Mathlib.Omega.{arith}
-use lib.ListN.{get_or}
-use Rattle.map_cells.proofs.Cells.{Alike, alike-begin, alike_next, alike-stopped, alike-ended}
+use Prim.Native.Nat.{◌-◌}
+use Rattle.map_cells.proofs.Cells.{Alike}
 use Rattle.map_cells.proofs.run_end.Given as goal
 
 abbrev pub invariant-loop-i : goal.invariant-loop-i

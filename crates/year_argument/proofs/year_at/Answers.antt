@@ -3,4 +3,4 @@ use Rattle.year_argument.proofs.Laws.{year_named}
 use Rattle.year_argument.proofs.year_at.Goals as goal
 
 pub returns : goal.returns
-returns c = year_named _ c.year_in.ensures
+returns g c = year_named _ c.year_in.ensures

@@ -6,16 +6,12 @@ use Rattle.year_argument.proofs.year_in.Goals as goal
 
 pub returns-then-in_span : goal.returns-then-in_span
 unfolding year_in
-returns-then-in_span c =
-    let named = sym c.number.ensures ∙ c.year-1.given.1 in
-    rw named (in_span-year _ (sym c.in_span.ensures ∙ c.if-in_span.true))
+returns-then-in_span g c = rw (sym c.number.ensures ∙ c.in-Value.is) (in_span-year _ (sym c.in_span.ensures ∙ c.if-in_span.true))
 
 pub returns-in-Value : goal.returns-in-Value
 unfolding year_in
-returns-in-Value c =
-    let named = sym c.number.ensures ∙ c.year-1.given.1 in
-    rw named (outside-year _ (sym c.in_span.ensures ∙ c.if-in_span.false))
+returns-in-Value g c = rw (sym c.number.ensures ∙ c.in-Value.is) (outside-year _ (sym c.in_span.ensures ∙ c.if-in_span.false))
 
 pub returns-in-NotANumber : goal.returns-in-NotANumber
 unfolding year_in
-returns-in-NotANumber c = rw (sym c.number.ensures ∙ c.enum_told-1.given.1)
+returns-in-NotANumber g c = rw (sym c.number.ensures ∙ c.in-NotANumber.is)
