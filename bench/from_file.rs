@@ -8,7 +8,7 @@ use std::process::{Command, Stdio};
 use crate::tally::{Tally, AREA, BY_BYTES};
 use crate::{fail, nominal, seconds, ROUNDS};
 
-const PROGRAM: &str = "target/bin/pcd_tally";
+const PROGRAM: &str = "crates/pcd_tally/out/pcd_tally";
 const FILE: &str = "target/bench/stream.pcd";
 
 pub fn print_heading() {

@@ -2,6 +2,7 @@
 # names a descriptor, and the last line there is the status that the wrapper ends with.
 set -uo pipefail
 root=$(cd "$(dirname "${BASH_SOURCE[0]}")/.." && pwd)
+. "$root/bin/built.sh"
 name=$(basename "$0")
 
 # wants LEAST MOST WORD..: the help where it is asked for; status 2 and the usage where there are fewer or more words.
@@ -51,8 +52,8 @@ standard_input() {
 # run CRATE WORD..: the program, built on first use. A standard output that is closed stays one that cannot be written, and a closed pipe is an
 # error of writing, which the program says.
 run() {
-    local program=$root/target/bin/$1 said status
-    [ -x "$program" ] || (cd "$root" && rt check "$1") >&2 || exit 1
+    local program=$root/crates/$1/out/$1 said status
+    built "$1"
     shift
     { : 5<&0; } 2>/dev/null || exec 0</dev/null
     { : 5>&1; } 2>/dev/null || exec 1</dev/null

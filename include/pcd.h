@@ -1,7 +1,7 @@
 /*
  * Landsat 7 payload correction data (PCD): the proved library for programs in C.
  *
- *     rt staticlib bridge                                  target/staticlib/libbridge.a: the reader and the writer
+ *     bench/archive.sh bridge                              target/staticlib/libbridge.a: the reader and the writer
  *     cc -I include program.c target/staticlib/libbridge.a
  *
  * The other archives are made and linked likewise, and any of them together:

@@ -4,7 +4,7 @@
 # tests/labelling.py, tests/own_sync.py and docs/DECISIONS.md. Ends with status 1 where something differs.
 set -uo pipefail
 cd "$(dirname "${BASH_SOURCE[0]}")/.."
-program=target/bin/pcd_frames
+program=crates/pcd_frames/out/pcd_frames
 frames=bin/pcd-frames
 memory=65536    # KiB of address space that the program may have on the longest input
 . tests/knock.sh

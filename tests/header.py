@@ -1,6 +1,6 @@
 #!/usr/bin/env python3
 """Sees that include/pcd.h declares exactly the entries that the crates export, with their types, the refusal numbers of crates/base, and a place for
-each number of a tally.
+each number of a tally; and that each entry has the parameters and the promise of the library's function that it calls.
 
 Run from the repository's root: python3 tests/header.py. The prototype of each entry is made from its signature in Rattle and compared with the
 header's, both ways. Ends with status 1 where they differ, or where no entry is found."""
@@ -34,17 +34,36 @@ def parameter(name, kind):
     return ["%s *%s" % (base, name), "size_t %s_len" % name]
 
 
+EXPORT = "#[unsafe(no_mangle)]\n"
+
+
+def source(pattern):
+    return "".join(open(path, encoding="utf-8").read() for path in sorted(glob.glob(pattern)))
+
+
+def functions(text, head):
+    """The functions behind this head: the name, the parameters, what is answered and promised, and the body's first line."""
+    found = re.findall(re.escape(head) + r"fn (\w+)\((.*?)\)(?: -> (\w+))?\n(.*?)\n\{\n +(.*?)\n", text, re.S)
+    return [(name, [p.strip().split(": ", 1) for p in re.split(r",\s*(?=\w+: |$)", given.strip()) if p.strip()], answer, " ".join(promise.split()), body)
+            for name, given, answer, promise, body in found]
+
+
 def exported():
-    """Each exported entry's prototype, from its signature."""
-    text = "".join(open(path, encoding="utf-8").read() for path in sorted(glob.glob("crates/*/src/*.rt")))
-    entries = {}
-    for name, given, answer in re.findall(r'#\[no_mangle\]\npub extern "C" fn (\w+)\((.*?)\)(?: -> (\w+))?\n', text, re.S):
-        parameters = [p.strip().split(": ", 1) for p in re.split(r",\s*(?=\w+: |$)", given.strip()) if p.strip()]
+    """Each exported entry's prototype, from its signature; and what is wrong with an entry beside the function that it calls."""
+    text = source("crates/*/src/*.rt")
+    entries, wrong = {}, []
+    for name, parameters, answer, promise, body in functions(text, EXPORT + 'pub extern "C" '):
         arguments = [a for p, kind in parameters for a in parameter(RENAMED.get(p, p), kind)]
         entries[name] = "%s %s(%s)" % (NUMBER[answer] if answer else "void", name, ", ".join(arguments))
-    if not entries or len(entries) != text.count("#[no_mangle]"):
-        sys.exit("%d signatures were understood, of %d exported entries" % (len(entries), text.count("#[no_mangle]")))
-    return entries
+        called = re.fullmatch(r"(\w+)::(\w+)\((.*)\)", body)
+        inner = called and functions(source("crates/%s/src/*.rt" % called.group(1)), "pub ")
+        if not called or called.groups()[1:] != (name, ", ".join(p for p, _ in parameters)):
+            wrong.append("%s does not pass its parameters to the library's function of its name" % name)
+        elif (name, parameters, answer, promise) not in [f[:4] for f in inner]:
+            wrong.append("%s has other parameters or another promise than %s::%s" % (name, called.group(1), name))
+    if not entries or len(entries) != text.count(EXPORT):
+        sys.exit("%d signatures were understood, of %d exported entries" % (len(entries), text.count(EXPORT)))
+    return entries, wrong
 
 
 def declared():
@@ -77,8 +96,8 @@ def twice():
 
 
 def main():
-    wanted, (prototypes, constants) = exported(), declared()
-    wrong = ["%s\n  the library has %s\n  the header has  %s" % (name, wanted.get(name), prototypes.get(name))
+    (wanted, wrong), (prototypes, constants) = exported(), declared()
+    wrong += ["%s\n  the library has %s\n  the header has  %s" % (name, wanted.get(name), prototypes.get(name))
              for name in sorted(wanted.keys() | prototypes.keys()) if wanted.get(name) != prototypes.get(name)]
     numbers = refusals()
     wrong += ["%s is %s in crates/base and %s in the header" % (name, number, constants.get(name))

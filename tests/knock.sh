@@ -1,15 +1,10 @@
-# What the knocks share: a folder of their own, and a knock. A script sources this file in the repository's root and ends by `knocked NAME`.
+# What the knocks share: the programs built, a folder of their own, and a knock. A script sources this file in the repository's root and ends by
+# `knocked NAME`.
+root=$PWD
+. bin/built.sh
 work=$(mktemp -d)
 trap 'rm -rf "$work"' EXIT
 failed=0
-
-# built PROGRAM..: builds the programs that are not built yet.
-built() {
-    local program
-    for program in "$@"; do
-        [ -x "target/bin/$program" ] || rt check "$program" >&2 || exit 1
-    done
-}
 
 # wrote OUT: whether the standard output is as wanted. A script may have another rule: so many lines, or the bytes of a file.
 wrote() {

@@ -5,10 +5,12 @@
 # The program itself has no exit status, so of its own only a crash or a hang counts. Ends with status 1 where something differs.
 set -uo pipefail
 cd "$(dirname "${BASH_SOURCE[0]}")/.."
-program=target/bin/pcd_tally
+program=crates/pcd_tally/out/pcd_tally
 wrapper=bin/pcd-tally
 memory=65536    # KiB of address space that the program and the wrapper may have on the longest input
-[ -x "$program" ] || rt check pcd_tally >&2 || exit 1
+root=$PWD
+. bin/built.sh
+built pcd_tally
 work=$(mktemp -d)
 trap 'rm -rf "$work"' EXIT
 failed=0

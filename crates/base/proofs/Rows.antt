@@ -7,7 +7,7 @@ use native.Mathlib.Nat.{mul-div_cancel_left}
 use native.Mathlib.Omega.{arith}
 use lib.ListN.{length, get_or, take, drop, length-append, length-drop, take-append-drop}
 use lib.Seq.{take_at, drop_at, drop-drop, length-take-le}
-use Rattle.base.specs.Ranges.{tabulate, joined}
+use Rattle.base.specs.Ranges.{joined}
 use Rattle.base.specs.Rows.{row, rows}
 use Rattle.base.proofs.Ranges.{tabulate-length, tabulate-at}
 

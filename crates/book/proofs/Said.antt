@@ -1,5 +1,5 @@
 -- What a book says in its bytes: the numbers that were read there, its sizes, and where its bodies lie. Assumes nothing.
-use mathlib.Core.Path.{◌≡◌, refl, sym, ap, ◌∙◌}
+use mathlib.Core.Path.{◌≡◌, refl, ap, ◌∙◌}
 use mathlib.Core.Bool.{Bool, true, false, ◌&&◌}
 use mathlib.Core.List.{List}
 use Prim.Native.Nat.{ℕ, ◌+◌, ◌*◌, ◌-◌, ◌^◌, ◌≤◌, ◌<◌}
@@ -7,14 +7,14 @@ use native.Mathlib.Nat.{pow-le-pow_right}
 use native.Mathlib.Omega.{arith}
 use lib.Dec.{eqb, leb, lit<}
 use lib.ListN.{length, take, drop}
-use borrow.Author.Tests.{eq-eqb, ne_eqb, le-leb, lt-leb, eqb-true, leb-true}
+use borrow.Author.Tests.{eqb-true, leb-true}
 use Rattle.base.specs.Numbers.{big_endian, NumberOf}
 use Rattle.base.specs.Rows.{row}
 use Rattle.base.proofs.Numbers.{Bytes, big_endian-below, take-bytes, short-take}
 use Rattle.base.proofs.Rows.{part-is, row-after}
 use Rattle.book.specs.Layout.{body_start, book_length, cycles_said, year_said, entry_start, instant_at, offset_at, body_at}
 use Rattle.book.specs.Faults.{contents, is_sized}
-use Rattle.book.specs.Sought.{Sized, Laid}
+use Rattle.book.specs.Sought.{Sized}
 
 -- ---- numbers read
 read-in : (w : ℕ) (l : List ℕ) (r : ℕ) → w ≤ 8 → NumberOf (take w l) r → r ≡ big_endian (take w l)

@@ -8,16 +8,14 @@ ghost use Rattle.book_api.specs.Books.{CheckCrossed, HeaderCrossed, EntryCrossed
 use book_check::Verdict;
 
 // Writes the book of a year and of the bodies of its cycles, end to end.
-#[unsafe(no_mangle)]
-pub extern "C" fn pcd_book_write(year: u64, bodies: &[u8], out: &mut [u8]) -> u8
+pub fn pcd_book_write(year: u64, bodies: &[u8], out: &mut [u8]) -> u8
     ensures { WritePromise year bodies.now out.old out.new result }
 {
     book_writer::write(year, bodies, out)
 }
 
 // Why a view of the bytes holds nothing, 0 where it holds the book.
-#[unsafe(no_mangle)]
-pub extern "C" fn pcd_book_view_refusal(book: &[u8]) -> u8
+pub fn pcd_book_view_refusal(book: &[u8]) -> u8
     ensures { result ≡ view_refusal book.now }
 {
     book::view_refusal(book)
@@ -25,8 +23,7 @@ pub extern "C" fn pcd_book_view_refusal(book: &[u8]) -> u8
 
 // Checks a book: the number of its first fault, 0 where it is accepted. `out` gets the lowest entry that has the fault, 0 where there is none: that is
 // part of the answer, so it is written in every case.
-#[unsafe(no_mangle)]
-pub extern "C" fn pcd_book_check(book: &[u8], out: &mut u64) -> u8
+pub fn pcd_book_check(book: &[u8], out: &mut u64) -> u8
     ensures { CheckCrossed book.now result out.new }
 {
     match book_check::check(book) {
@@ -42,8 +39,7 @@ pub extern "C" fn pcd_book_check(book: &[u8], out: &mut u64) -> u8
 }
 
 // `out` gets the number of cycles, then the year.
-#[unsafe(no_mangle)]
-pub extern "C" fn pcd_book_header(book: &[u8], out: &mut [u64; 2]) -> u8
+pub fn pcd_book_header(book: &[u8], out: &mut [u64; 2]) -> u8
     ensures { HeaderCrossed book.now result out.old out.new }
 {
     let number = book::header_refusal(book);
@@ -55,8 +51,7 @@ pub extern "C" fn pcd_book_header(book: &[u8], out: &mut [u64; 2]) -> u8
 }
 
 // `out` gets the place of entry i in the book, then its length.
-#[unsafe(no_mangle)]
-pub extern "C" fn pcd_book_entry(book: &[u8], i: u64, out: &mut [u64; 2]) -> u8
+pub fn pcd_book_entry(book: &[u8], i: u64, out: &mut [u64; 2]) -> u8
     ensures { EntryCrossed book.now i result out.old out.new }
 {
     let number = book_parts::part_refusal(book, i);
@@ -69,8 +64,7 @@ pub extern "C" fn pcd_book_entry(book: &[u8], i: u64, out: &mut [u64; 2]) -> u8
 }
 
 // `out` gets the place of body i in the book, then its length.
-#[unsafe(no_mangle)]
-pub extern "C" fn pcd_book_body(book: &[u8], i: u64, out: &mut [u64; 2]) -> u8
+pub fn pcd_book_body(book: &[u8], i: u64, out: &mut [u64; 2]) -> u8
     ensures { BodyCrossed book.now i result out.old out.new }
 {
     let number = book_parts::part_refusal(book, i);

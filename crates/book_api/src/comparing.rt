@@ -4,13 +4,7 @@ ghost use Rattle.book_api.specs.Comparing.{CompareCrossed};
 use book_compare::Compared;
 
 // Puts how two books differ into a table of 510 lines of three numbers; `lines` gets how many there are.
-#[unsafe(no_mangle)]
-pub extern "C" fn pcd_book_compare(
-    first: &[u8],
-    second: &[u8],
-    table: &mut [u64],
-    lines: &mut u64,
-) -> u8
+pub fn pcd_book_compare(first: &[u8], second: &[u8], table: &mut [u64], lines: &mut u64) -> u8
     ensures { CompareCrossed first.now second.now result table.old table.new
         lines.old lines.new }
 {

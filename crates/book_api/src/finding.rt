@@ -4,8 +4,7 @@ ghost use Rattle.book_api.specs.Finding.{FindCrossed};
 use lookup::Found;
 
 // The last of the instants at or before the wanted one; `out` gets its place plus one, 0 for none, then the entries looked at.
-#[unsafe(no_mangle)]
-pub extern "C" fn pcd_find(instants: &[u64], wanted: u64, out: &mut [u64; 2]) -> u8
+pub fn pcd_find(instants: &[u64], wanted: u64, out: &mut [u64; 2]) -> u8
     ensures { FindCrossed instants.now wanted result out.old out.new }
 {
     match lookup::find(instants, wanted) {

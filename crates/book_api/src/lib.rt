@@ -1,5 +1,6 @@
-// Books of cycles for programs in other languages: exported entries over a book and its check, how two differ, the lookup of an instant, and the records
-// of a cycle. include/pcd.h declares them for C.
+// Books of cycles for programs in other languages: entries over a book and its check, how two
+// differ, the lookup of an instant, and the records of a cycle. `book_api_c` exports them, and
+// include/pcd.h declares them for C.
 #![tactic(auto)]
 
 mod books;

@@ -7,8 +7,7 @@ ghost use Rattle.orbit_ephemeris.specs.Record.{ephemeris_of};
 ghost use Rattle.book_api.specs.Records.{TemperaturesCrossed, DriftCrossed, AttitudeCrossed, ClockCrossed, EphemerisCrossed};
 
 // The four temperatures of a major frame, in degrees Celsius.
-#[unsafe(no_mangle)]
-pub extern "C" fn pcd_temperatures(cycle: &[u8], year: u64, frame: u64, out: &mut [f64; 4]) -> u8
+pub fn pcd_temperatures(cycle: &[u8], year: u64, frame: u64, out: &mut [f64; 4]) -> u8
     ensures { TemperaturesCrossed (temperatures_of cycle.now year frame) result out.old out.new }
 {
     let t = orbit::temperatures::read(cycle, year, frame);
@@ -20,13 +19,7 @@ pub extern "C" fn pcd_temperatures(cycle: &[u8], year: u64, frame: u64, out: &mu
 }
 
 // The drift of the gyros, in radians per second, and its instant.
-#[unsafe(no_mangle)]
-pub extern "C" fn pcd_gyro_drift(
-    cycle: &[u8],
-    year: u64,
-    instant: &mut u64,
-    out: &mut [f64; 3],
-) -> u8
+pub fn pcd_gyro_drift(cycle: &[u8], year: u64, instant: &mut u64, out: &mut [f64; 3]) -> u8
     ensures { DriftCrossed (gyro_drift_of cycle.now year) result instant.old instant.new out.old out.new }
 {
     let g = orbit::gyro_drift::read(cycle, year);
@@ -39,8 +32,7 @@ pub extern "C" fn pcd_gyro_drift(
 }
 
 // The Euler parameters of a major frame as counts, and their instant.
-#[unsafe(no_mangle)]
-pub extern "C" fn pcd_attitude(
+pub fn pcd_attitude(
     cycle: &[u8],
     year: u64,
     frame: u64,
@@ -60,8 +52,7 @@ pub extern "C" fn pcd_attitude(
 }
 
 // The last update of the clock, in seconds, and the counts of its three terms.
-#[unsafe(no_mangle)]
-pub extern "C" fn pcd_clock(cycle: &[u8], year: u64, updated: &mut f64, out: &mut [u64; 3]) -> u8
+pub fn pcd_clock(cycle: &[u8], year: u64, updated: &mut f64, out: &mut [u64; 3]) -> u8
     ensures { ClockCrossed (clock_of cycle.now year) result updated.old updated.new out.old out.new }
 {
     let c = orbit::clock::read(cycle, year);
@@ -74,8 +65,7 @@ pub extern "C" fn pcd_clock(cycle: &[u8], year: u64, updated: &mut f64, out: &mu
 }
 
 // The position and the velocity in a major frame, in metres and metres per millisecond, and their instant.
-#[unsafe(no_mangle)]
-pub extern "C" fn pcd_ephemeris(
+pub fn pcd_ephemeris(
     cycle: &[u8],
     year: u64,
     frame: u64,

@@ -4,18 +4,15 @@ use mathlib.Core.Bool.{Bool, true, false, cond}
 use mathlib.Core.List.{List, [], ◌∷◌}
 use Prim.Native.Nat.{ℕ}
 use native.Mathlib.Omega.{arith}
-use lib.Dec.{T, eqb}
-use lib.Pow.{are_bytes}
+use lib.Dec.{eqb}
 use borrow.Author.Tests.{eq-eqb, ne_eqb, eqb-true}
 use Rattle.base.proofs.Numbers.{Bytes, to-bytes}
 use Rattle.base.proofs.Refusals.{Positive}
 use Rattle.book.specs.declared.faults.FirstFault.{FirstFault}
-use Rattle.book.specs.Layout.{book, year_said, cycles_of}
 use Rattle.book.specs.Faults.{Fault, book_faults, lines_of, view_refusal, fault_at, first_of, first_fault}
 use Rattle.book.proofs.Ways.{view_number}
-use Rattle.book_check.specs.declared.Verdict.{Verdict}
 use Rattle.book_check.specs.declared.Verdict.TheVariants.{Accepted, Faulty}
-use Rattle.book_check.specs.Checking.{verdict_of, verdict, fault_in, Given}
+use Rattle.book_check.specs.Checking.{verdict}
 use Rattle.book_check.specs.Promise.{CheckPromise}
 use Rattle.book_check.proofs.Wholes.{is_book, is_given, given-clear}
 

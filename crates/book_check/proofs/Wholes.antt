@@ -2,27 +2,26 @@
 -- about the contents once (`sound`); by these each entry and each body is what the layout puts there, so that the bytes are equal piece by piece,
 -- and the writer's own tests are passed. Assumes nothing.
 use mathlib.Core.Path.{◌≡◌, refl, sym, ap, ◌∙◌}
-use mathlib.Core.Bool.{Bool, true, false, cond, not, ◌&&◌, ◌||◌}
-use mathlib.Core.List.{List, [], ◌∷◌, ◌++◌}
+use mathlib.Core.Bool.{Bool, true, false, cond, not, ◌||◌}
+use mathlib.Core.List.{List, [], ◌++◌}
 use Prim.Native.Nat.{ℕ, zero, suc, ◌+◌, ◌*◌, ◌-◌, ◌/◌, ◌%◌, ◌≤◌, ◌<◌}
 use native.Mathlib.Nat.{mul-div_cancel_left}
 use native.Mathlib.Omega.{arith}
-use lib.Dec.{eqb, leb, ltb, lit<}
+use lib.Dec.{eqb, lit<}
 use lib.ListN.{length, get_or, take, drop, length-drop, take-append-drop}
 use lib.Seq.{drop-drop, length-take-le, take-add, drop-append-le, take-append-le}
-use borrow.Author.Tests.{not-false, ltb-false, le-leb, eq-eqb, eqb-true}
+use borrow.Author.Tests.{not-false, le-leb, eq-eqb, eqb-true}
 use Rattle.base.specs.Numbers.{big_endian, bytes_of}
 use Rattle.base.specs.Ranges.{tabulate, joined}
-use Rattle.base.specs.Refusal.{Line, refusal}
+use Rattle.base.specs.Refusal.{refusal}
 use Rattle.base.specs.Rows.{row, rows}
 use Rattle.base.proofs.Numbers.{Bytes, written_back, take-bytes, drop-bytes}
 use Rattle.base.proofs.Ranges.{tabulate-length, tabulate-at}
 use Rattle.base.proofs.Refusals.{Positive, given_is}
 use Rattle.base.proofs.Rows.{of_rows, row-after}
-use Rattle.cycle.specs.Cycle.{instant_of, is_cycle}
+use Rattle.cycle.specs.Cycle.{instant_of}
 use Rattle.book.specs.Layout.{body_start, book_length, entry, book, bytes_at, cycles_said, year_said, entry_start, instant_at, offset_at, body_at, cycles_of}
-use Rattle.book.specs.Faults.{contents, contents_of, is_sized, bad_body, falls, bad_instant, bad_offset, faults, lines_of, view_refusal}
-use Rattle.book.specs.Sought.{Sized}
+use Rattle.book.specs.Faults.{contents, contents_of, is_sized, bad_body, falls, bad_instant, bad_offset, view_refusal}
 use Rattle.book_writer.specs.Writing.{bodies_in, write_lines, write_refusal, write_after}
 use Rattle.book.proofs.Ways.{number, Sound, sound_none, none-sound}
 use Rattle.book.proofs.Said.{body-row}

@@ -3,16 +3,16 @@
 -- cycles that come next. Assumes nothing.
 use mathlib.Core.Path.{◌≡◌, refl, sym, ap, ◌∙◌}
 use mathlib.Core.Bool.{Bool, true, false, cond}
-use mathlib.Core.List.{List, [], ◌∷◌, ◌++◌, map}
-use mathlib.Core.Option.{Option, none, some}
+use mathlib.Core.List.{List, [], ◌∷◌, ◌++◌}
+use mathlib.Core.Option.{none, some}
 use Prim.Native.Nat.{ℕ, ◌<◌}
 use native.Mathlib.Omega.{arith}
 use lib.Dec.{eqb, ltb}
 use lib.ListN.{length}
-use borrow.Author.Tests.{ltb-true, ltb-false, eq-eqb, ne_eqb, eqb-true, eqb-false}
+use borrow.Author.Tests.{ltb-true, ltb-false, eq-eqb, ne_eqb, eqb-true}
 use Rattle.book_compare.specs.Differences.{Cycle, body_on, Difference, only_first, only_second, in_both, first_differing, difference_of}
 use Rattle.book_compare.specs.Differences.{listed_on, AllAfter, StrictlyRises, instants}
-use Rattle.book_compare.specs.Merge.{together, against, merged, cycle_instants}
+use Rattle.book_compare.specs.Merge.{together, merged, cycle_instants}
 
 -- ---- what lies after t
 after-trans : (s t : ℕ) (us : List ℕ) → s < t → AllAfter t us → AllAfter s us

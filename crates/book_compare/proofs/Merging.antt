@@ -3,14 +3,14 @@
 -- merge, so that the loop needs the law of one step alone. Assumes nothing.
 use mathlib.Core.Path.{◌≡◌, refl, sym, ap, ◌∙◌}
 use mathlib.Core.Bool.{Bool, true, false, cond}
-use mathlib.Core.List.{List, [], ◌∷◌, ◌++◌, map, append_assoc, append-nil}
-use Prim.Native.Nat.{ℕ, zero, suc, ◌+◌, ◌*◌, ◌-◌, ◌≤◌, ◌<◌}
+use mathlib.Core.List.{List, [], ◌∷◌, ◌++◌, append_assoc, append-nil}
+use Prim.Native.Nat.{ℕ, suc, ◌+◌, ◌*◌, ◌-◌, ◌≤◌, ◌<◌}
 use native.Mathlib.Numerals.{add-one, towards_suc}
 use native.Mathlib.Omega.{arith}
 use lib.Dec.{eqb, leb, ltb}
 use lib.ListN.{length, take, drop, set, length-append}
 use lib.Seq.{take_at, drop_at, drop-drop, sets-eq}
-use borrow.Author.Tests.{lt-ltb, le-ltb, le-leb, lt-leb, leb-true, leb-false, ltb-false, eq-eqb, ne_eqb, eqb-true}
+use borrow.Author.Tests.{lt-ltb, le-ltb, leb-true, leb-false, ltb-false, eq-eqb, ne_eqb, eqb-true}
 use Rattle.base.specs.Lists.{concat_map}
 use Rattle.base.specs.Ranges.{tabulate}
 use Rattle.base.proofs.Lists.{concat_map-append}
@@ -19,7 +19,7 @@ use Rattle.book_parts.specs.Parts.{Entered}
 use Rattle.book_compare.specs.declared.merge.Step.{Step}
 use Rattle.book_compare.specs.Differences.{Cycle, cycle_at, Difference, only_first, only_second, in_both, first_differing}
 use Rattle.book_compare.specs.Answer.{numbers, listed}
-use Rattle.book_compare.specs.Merge.{together, against, merged, cycles_from, merged_from, step_to, no_differing_line, line_of, lines_of, past_both, step_numbers}
+use Rattle.book_compare.specs.Merge.{merged, cycles_from, merged_from, step_to, no_differing_line, line_of, lines_of, past_both, step_numbers}
 use Rattle.book_compare.specs.Merge.{Placed, Stepped, PutPromise}
 use Rattle.book_compare.proofs.FirstByte.{differing_le, same-list, differs_nowhere}
 use Rattle.book_parts.proofs.Held.{body-length}

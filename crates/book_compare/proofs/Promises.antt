@@ -3,7 +3,7 @@
 use mathlib.Core.Path.{◌≡◌, refl, sym, ap, ◌∙◌}
 use mathlib.Core.Bool.{Bool, true, false, cond, not}
 use mathlib.Core.List.{List, [], ◌∷◌, map}
-use Prim.Native.Nat.{ℕ, zero, suc, ◌+◌, ◌-◌, ◌≤◌, ◌<◌}
+use Prim.Native.Nat.{ℕ, zero, suc, ◌+◌, ◌-◌, ◌≤◌}
 use native.Mathlib.Omega.{arith}
 use lib.Dec.{eqb}
 use lib.ListN.{length}
@@ -19,7 +19,7 @@ use Rattle.book_check.proofs.Wholes.{is_book}
 use Rattle.book_compare.specs.declared.Compared.{Compared}
 use Rattle.book_compare.specs.declared.Compared.TheVariants.{Lines, Refused}
 use Rattle.book_compare.specs.Differences.{Cycle, cycle_at, cycles_in, Difference, Lists}
-use Rattle.book_compare.specs.Answer.{table_length, fault_of, compare_lines, listed, values, values_of}
+use Rattle.book_compare.specs.Answer.{compare_lines, listed, values_of}
 use Rattle.book_compare.specs.Merge.{merged, cycles_from, merged_from, Placed, PutPromise}
 use Rattle.book_compare.specs.Promise.{SameBooks, ComparePromise}
 use Rattle.book.proofs.Headers.{year_is}

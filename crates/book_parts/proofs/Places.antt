@@ -1,7 +1,7 @@
 -- The parts of a book: each way out of the entries that hand out parts or tell where they lie. Assumes nothing.
-use mathlib.Core.Path.{◌≡◌, refl, sym, ap, ◌∙◌}
+use mathlib.Core.Path.{◌≡◌, refl, sym}
 use mathlib.Core.Bool.{Bool, true, false, cond, not}
-use mathlib.Core.List.{List, [], ◌∷◌}
+use mathlib.Core.List.{List}
 use Prim.Native.Nat.{ℕ, ◌+◌, ◌*◌, ◌≤◌, ◌<◌}
 use native.Mathlib.Omega.{arith}
 use lib.Dec.{leb}
@@ -13,7 +13,6 @@ use Rattle.book.specs.Layout.{entry_start, body_start, cycles_said}
 use Rattle.book.specs.Header.{has_size, header_refusal, count_of}
 use Rattle.book.specs.Sought.{Sized}
 use Rattle.book.proofs.Headers.{sizes, header_size, count-is}
-use Rattle.book_parts.specs.declared.Place.{Place}
 use Rattle.book_parts.specs.Parts.{part_lines, part_refusal, place, nowhere, entry_place, body_place, PlacePromise}
 
 -- ---- whether there is an entry i

@@ -1,6 +1,1 @@
 mod HeldLaws
-mod Handed
-mod Told
-mod Through
-mod ToldThrough
-mod Results

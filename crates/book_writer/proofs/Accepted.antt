@@ -1,20 +1,19 @@
 -- What is written has no fault: the bytes of a book say what it was written from. Assumes nothing.
-use mathlib.Core.Path.{◌≡◌, refl, sym, ap, ◌∙◌}
-use mathlib.Core.Bool.{Bool, true, false, not, ◌&&◌, ◌||◌}
-use mathlib.Core.List.{List, [], ◌∷◌}
-use Prim.Native.Nat.{ℕ, zero, suc, ◌+◌, ◌*◌, ◌-◌, ◌^◌, ◌≤◌, ◌<◌}
+use mathlib.Core.Path.{◌≡◌, refl, sym, ◌∙◌}
+use mathlib.Core.Bool.{Bool, true, false, ◌&&◌}
+use mathlib.Core.List.{List, []}
+use Prim.Native.Nat.{ℕ, zero, suc, ◌-◌, ◌≤◌, ◌<◌}
 use native.Mathlib.Omega.{arith}
-use lib.Dec.{eqb, leb, ltb}
+use lib.Dec.{leb}
 use lib.ListN.{length, get_or}
-use borrow.Author.Tests.{eq-eqb, le-leb, eqb-true, leb-true, not-false, lt-ltb}
-use Rattle.base.specs.Ranges.{each}
+use borrow.Author.Tests.{eq-eqb, le-leb, leb-true, not-false}
 use Rattle.time_code.specs.Calendar.{in_span}
-use Rattle.cycle.specs.Cycle.{is_cycle, is_major, instant_of}
+use Rattle.cycle.specs.Cycle.{is_cycle, instant_of}
 use Rattle.cycle.proofs.Frames.{cycle_length}
 use Rattle.book.specs.Layout.{body_start, book_length, book, cycles_said, year_said, instant_at, body_at, cycles_of}
 use Rattle.book.specs.Faults.{contents, contents_of, is_sized, bad_body, falls, bad_instant, bad_offset, view_refusal}
 use Rattle.book_writer.proofs.Placed.{book-length, cycles_said_lem, year_said_lem, instant-at, offset_at_lem, body-at, cycles_of_lem}
-use Rattle.book.proofs.Ways.{number, long_number, Sound, sound_none, none-sound}
+use Rattle.book.proofs.Ways.{long_number, Sound, sound_none}
 
 module _ (y : ℕ) (cs : List (List ℕ)) (s : Sound (contents_of y cs)) where
   abbrev n : ℕ

@@ -2,11 +2,11 @@
 -- of the bodies in the caller's bytes: an instant is its body's own and an offset is where its body starts, so that 18 comes only where an instant
 -- does not rise, and 19 never. Assumes nothing.
 use mathlib.Core.Path.{◌≡◌, refl, sym, ap, ◌∙◌}
-use mathlib.Core.Bool.{Bool, true, false, not, ◌&&◌, ◌||◌}
-use mathlib.Core.List.{List, [], ◌∷◌}
-use Prim.Native.Nat.{ℕ, ◌+◌, ◌*◌, ◌-◌, ◌/◌, ◌%◌, ◌≤◌, ◌<◌}
+use mathlib.Core.Bool.{Bool, true, false, not}
+use mathlib.Core.List.{List, []}
+use Prim.Native.Nat.{ℕ, ◌*◌, ◌-◌, ◌/◌, ◌%◌, ◌≤◌, ◌<◌}
 use native.Mathlib.Omega.{arith}
-use lib.Dec.{eqb, leb, ltb, lit<}
+use lib.Dec.{eqb, leb, lit<}
 use lib.ListN.{length, get_or}
 use borrow.Author.Tests.{eq-eqb, ne_eqb, le-leb, lt-leb, eqb-true, leb-true}
 use Rattle.base.specs.Ranges.{lowest}
@@ -23,7 +23,7 @@ use Rattle.book_writer.specs.Writing.{bodies_in, write_lines, write_refusal, wri
 use Rattle.book_writer.specs.Promise.{WritePromise}
 use Rattle.book.specs.Sought.{bad_row}
 use Rattle.book_writer.specs.Sought.{row_instant, falling_row}
-use Rattle.book.proofs.Ways.{number, numbered, Sound, none-sound, other-year, other-size, other-body, other-instant, no_fault}
+use Rattle.book.proofs.Ways.{number, numbered, none-sound, other-year, other-size, other-body, other-instant, no_fault}
 use Rattle.book_writer.proofs.Accepted.{accepted, year_is, cycles_are}
 
 -- ---- the faults of a year and n bodies end to end

@@ -1,13 +1,13 @@
 -- The stores of the writer: the header, an entry behind those before it, and the bodies; together they are the book. Assumes nothing.
 use mathlib.Core.Path.{◌≡◌, refl, sym, ap, ◌∙◌}
-use mathlib.Core.List.{List, [], ◌∷◌, ◌++◌, append_assoc, append-nil}
-use Prim.Native.Nat.{ℕ, suc, ◌+◌, ◌*◌, ◌-◌, ◌≤◌, ◌<◌}
+use mathlib.Core.List.{List, [], ◌++◌, append_assoc, append-nil}
+use Prim.Native.Nat.{ℕ, ◌+◌, ◌*◌, ◌-◌, ◌≤◌, ◌<◌}
 use native.Mathlib.Numerals.{add-one}
 use native.Mathlib.Omega.{arith}
 use lib.Dec.{lit<}
 use lib.ListN.{length, get_or, take, drop, length-append, length-drop, take-append-drop, drop_of_length-le}
-use lib.Seq.{take_at, drop_at, drop-drop, length-take-le, take_all}
-use borrow.Rule.Slice.PartMut.{mid_of, put_mid, mid_len}
+use lib.Seq.{take_at, drop_at, drop-drop, length-take-le}
+use borrow.Rule.Slice.PartMut.{mid_of, put_mid}
 use Rattle.base.specs.Numbers.{bytes_of}
 use Rattle.base.specs.Ranges.{joined}
 use Rattle.base.proofs.Numbers.{length-bytes_of}
@@ -90,10 +90,10 @@ module _ (y : ℕ) (bodies : List ℕ) (n : ℕ) (whole : length bodies ≡ 6553
 
   -- the header h1, the entries h2 behind it, and the bodies from there on
   pub book-put : (old h1 h2 new : List ℕ) → length old ≡ book_length n → h1 ≡ bytes_of 2 n ++ (bytes_of 2 y ++ drop 4 old) → Holds h1 n h2
-      → new ≡ take (length bodies) bodies ++ drop (length bodies) (mid_of (4 + 12 * n) (length h2 - (4 + 12 * n)) h2)
+      → new ≡ bodies
       → put_mid (4 + 12 * n) (length h2 - (4 + 12 * n)) h2 new ≡ book y (bodies_in bodies)
   unfolding book
-  book-put old h1 h2 new l e1 e2 e3 =
+  book-put old h1 h2 new l e1 e2 copied =
       let start = 4 + 12 * n in
       let header = bytes_of 2 n ++ bytes_of 2 y in
       let rest = drop start h1 in
@@ -106,11 +106,6 @@ module _ (y : ℕ) (bodies : List ℕ) (n : ℕ) (whole : length bodies ≡ 6553
       let width = length h2 - start in
       let head : take start h2 ≡ before = ap (λ (r : List ℕ). take start r) parts ∙ take_at before rest start lb in
       let tail : drop width (drop start h2) ≡ [] = drop_of_length-le (drop start h2) {i = width} (omega (arith, length-drop start h2)) in
-      let lm : length (mid_of start width h2) ≡ width = mid_len start (length h2) h2 (omega arith) in
-      let past : drop (length bodies) (mid_of start width h2) ≡ [] = drop_of_length-le (mid_of start width h2) {i = length bodies} (omega arith) in
-      let copied : new ≡ bodies =
-      e3 ∙ ap (λ (r : List ℕ). take (length bodies) bodies ++ r) past ∙ append-nil (take (length bodies) bodies)
-      ∙ take_all (length bodies) bodies (omega arith) in
       ap (λ (r : List ℕ). r ++ (new ++ drop width (drop start h2))) head
       ∙ ap (λ (r : List ℕ). before ++ (new ++ r)) tail
       ∙ ap (λ (r : List ℕ). before ++ r) (append-nil new ∙ copied ∙ rows-joined 65536 bodies n (lit< tt) whole)

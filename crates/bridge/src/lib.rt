@@ -1,4 +1,5 @@
-// The reader and the writer for programs in other languages: exported entries, one file for each. include/pcd.h declares them for C.
+// The reader and the writer for programs in other languages, one file for each. `bridge_c` exports
+// these entries, and include/pcd.h declares them for C.
 #![tactic(auto)]
 
 mod reading;

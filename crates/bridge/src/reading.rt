@@ -8,8 +8,7 @@ use tally_numbers::NUMBERS;
 
 // Writes a fresh tally of this rule: 1, by bytes, or 2, by bits. Returns the number of the refusal, 0 for none; after a refusal the fresh tally of
 // rule 1 is written.
-#[unsafe(no_mangle)]
-pub extern "C" fn pcd_fresh(rule: u64, numbers: &mut [u64; NUMBERS], frame: &mut [u8; 128]) -> u8
+pub fn pcd_fresh(rule: u64, numbers: &mut [u64; NUMBERS], frame: &mut [u8; 128]) -> u8
     ensures { FreshCrossed rule result numbers.new frame.new }
 {
     crossing::fresh(rule, numbers, frame)
@@ -17,8 +16,7 @@ pub extern "C" fn pcd_fresh(rule: u64, numbers: &mut [u64; NUMBERS], frame: &mut
 
 // Takes a piece of the stream. Returns the number of the refusal, 0 for none; a refusal writes nothing. `answer` gets the bytes taken, then
 // 1 where a major frame is complete and 0 where none is.
-#[unsafe(no_mangle)]
-pub extern "C" fn pcd_take(
+pub fn pcd_take(
     numbers: &mut [u64; NUMBERS],
     frame: &mut [u8; 128],
     piece: &[u8],
@@ -34,8 +32,7 @@ pub extern "C" fn pcd_take(
 
 // As `pcd_take`, but it also stops just after the byte that ends a hunt. `answer` gets the bytes taken, then 1 where a major frame is complete, then
 // 1 where a hunt has ended.
-#[unsafe(no_mangle)]
-pub extern "C" fn pcd_take_to_lock(
+pub fn pcd_take_to_lock(
     numbers: &mut [u64; NUMBERS],
     frame: &mut [u8; 128],
     piece: &[u8],
@@ -52,8 +49,7 @@ pub extern "C" fn pcd_take_to_lock(
 // One step over a reel as it comes, which locks on a frame's own sync. Beside the tally the caller lends `feeder`: 1 where a lock awaits its word and
 // 0 where none does, then how many lead-ins were handed; both are 0 at first. `ends` is 0 where more bytes may follow the piece. `answer` gets the
 // bytes taken, then 1 where a major frame is complete, then 1 where the bytes left are asked for again with more behind them.
-#[unsafe(no_mangle)]
-pub extern "C" fn pcd_relock(
+pub fn pcd_relock(
     numbers: &mut [u64; NUMBERS],
     frame: &mut [u8; 128],
     feeder: &mut [u64; 2],
@@ -71,12 +67,7 @@ pub extern "C" fn pcd_relock(
 }
 
 // Puts an operator on duty. Returns the number of the refusal, 0 for none; a refusal writes nothing.
-#[unsafe(no_mangle)]
-pub extern "C" fn pcd_change_duty(
-    numbers: &mut [u64; NUMBERS],
-    frame: &mut [u8; 128],
-    operator: u64,
-) -> u8
+pub fn pcd_change_duty(numbers: &mut [u64; NUMBERS], frame: &mut [u8; 128], operator: u64) -> u8
     ensures { DutyCrossed (places numbers.old frame.old) operator result (places numbers.new frame.new) }
 {
     crossing::change_duty(numbers, frame, operator)

@@ -1,15 +1,13 @@
 // The writer's two entries. The answer is the number of the refusal, 0 for none; a refusal writes nothing.
 ghost use Rattle.writer.specs.Promise.{LeadInPromise, MinorFramePromise};
 
-#[unsafe(no_mangle)]
-pub extern "C" fn pcd_write_lead_in(spacing: u64, out: &mut [u8]) -> u8
+pub fn pcd_write_lead_in(spacing: u64, out: &mut [u8]) -> u8
     ensures { LeadInPromise spacing out.old out.new result }
 {
     writer::write_lead_in(spacing, out)
 }
 
-#[unsafe(no_mangle)]
-pub extern "C" fn pcd_write_minor_frame(spacing: u64, frame: &[u8], out: &mut [u8]) -> u8
+pub fn pcd_write_minor_frame(spacing: u64, frame: &[u8], out: &mut [u8]) -> u8
     ensures { MinorFramePromise spacing frame.now out.old out.new result }
 {
     writer::write_minor_frame(spacing, frame, out)

@@ -12,7 +12,7 @@ use Rattle.labelling.specs.Operators.{on_duty}
 use Rattle.labelling.specs.Machine.{state_of, with_operators}
 use Rattle.labelling.specs.Order.{in_order}
 use Rattle.labelling.specs.Once.{FreshPromise}
-use Rattle.labelling.specs.Calls.{TakeCall, answer, take_refusal, duty_answer, duty_refusal}
+use Rattle.labelling.specs.Calls.{TakeCall, answer, duty_answer, duty_refusal}
 use Rattle.labelling.proofs.CallLaws.{duty_not_in_order, no_such_operator, duty_no_refusal, duty_accepted}
 use Rattle.own_sync.proofs.Locks.{up_all}
 use Rattle.reader.specs.Shapes.{part_of}
@@ -21,7 +21,7 @@ use Rattle.tally_numbers.proofs.Numbers.{layout}
 use Rattle.in_place.specs.declared.Part.{Part}
 use Rattle.in_place.specs.Places.{InPlace}
 use Rattle.crossing.specs.Crossing.{Lent, lent, call_of, written, take_refused, take_leaves, TakeCrossed, FreshCrossed}
-use Rattle.crossing.specs.Crossing.{Places, places, duty_call_of, tally_places, duty_refused, duty_leaves, DutyCrossed}
+use Rattle.crossing.specs.Crossing.{Places, duty_call_of, tally_places, duty_refused, duty_leaves, DutyCrossed}
 
 pub fresh-crossed : {rule n : ℕ} {t : Tally} → FreshPromise rule n t → FreshCrossed rule n (numbers_of t) t.frame
 fresh-crossed p = record {

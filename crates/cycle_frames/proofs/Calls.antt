@@ -7,13 +7,12 @@ use native.Mathlib.Omega.{arith}
 use borrow.Author.Tests.{eqb-true, eqb-false, not-false, ne_eqb}
 use lib.Dec.{eqb}
 use lib.ListN.{length, take, length-append}
-use Rattle.base.specs.Refusal.{Line, answered, refusal}
-use Rattle.base.proofs.Refusals.{NoneHolds, answered-given}
+use Rattle.base.proofs.Refusals.{NoneHolds}
 use Rattle.cycle.specs.Cycle.{is_frame, is_cycle}
 use Rattle.frame_store.specs.Slots.{start, with_frame}
 use Rattle.cycle_frames.specs.declared.Brought.{Brought}
 use Rattle.cycle_frames.specs.Cycles.{joined_frames, cycles_in}
-use Rattle.cycle_frames.specs.Gathering.{held_in, next_lines, next_refusal, not_taken, kept_as, all_left, by_kind, next_of, area_after, cycle_given}
+use Rattle.cycle_frames.specs.Gathering.{held_in, next_lines, next_refusal, kept_as, all_left, next_of, area_after, cycle_given}
 use Rattle.cycle_frames.specs.Gathering.{Taken, begun, taken, moved}
 use Rattle.cycle_frames.specs.Promise.{Gathered}
 use Rattle.cycle_frames.proofs.Frames.{Held, none, one, two, three, misfit, begins-none, made-whole, held-gives_none, none-held}

@@ -1,10 +1,10 @@
 -- What the frame store does with a frame behind those that are held, and what `next` then promises. Assumes nothing.
 use mathlib.Core.Path.{◌≡◌, refl, sym, ap, ◌∙◌}
 use mathlib.Core.Bool.{Bool, true, false, cond}
-use mathlib.Core.List.{List, ◌++◌}
+use mathlib.Core.List.{List}
 use Prim.Native.Nat.{ℕ, zero, suc, ◌+◌, ◌^◌, ◌<◌}
 use native.Mathlib.Omega.{arith}
-use borrow.Author.Tests.{eqb-true, eqb-false, ne_eqb}
+use borrow.Author.Tests.{eqb-true, ne_eqb}
 use lib.Dec.{eqb}
 use lib.ListN.{length}
 use Rattle.base.proofs.Refusals.{answered-number}
@@ -12,7 +12,7 @@ use Rattle.cycle.specs.Cycle.{is_frame, is_cycle}
 use Rattle.frame_store.specs.Slots.{is_in_use, lowest, with_frame}
 use Rattle.frame_store.specs.Answers.{stored_in, stored, store_leaves}
 use Rattle.cycle_frames.specs.declared.Brought.{Brought}
-use Rattle.cycle_frames.specs.Gathering.{bits_of, held_in, next_lines, next_refusal, not_taken, kept_as, all_left, next_of, area_after, Taken, taken}
+use Rattle.cycle_frames.specs.Gathering.{bits_of, held_in, next_lines, next_refusal, not_taken, kept_as, all_left, next_of, area_after, taken}
 use Rattle.cycle_frames.specs.Promise.{NextPromise}
 use Rattle.cycle_frames.proofs.Calls.{gathers, given-exactly, is_a_cycle}
 

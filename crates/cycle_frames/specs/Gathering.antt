@@ -1,5 +1,5 @@
 -- One frame after another: what a call answers and leaves, and lists of calls. Definitions only.
-use Rattle.std.specs.Prelude.{◌≡◌, Bool, false, cond, not, List, [], ◌∷◌, ◌++◌, ℕ, suc, ◌+◌, ◌-◌, ◌^◌, ◌<◌, eqb, length}
+use Rattle.std.specs.Prelude.{◌≡◌, false, cond, not, List, [], ◌∷◌, ◌++◌, ℕ, suc, ◌+◌, ◌-◌, ◌^◌, ◌<◌, eqb, length}
 use Rattle.base.specs.Format.{major_frame}
 use Rattle.base.specs.Refusal.{Line, ◌when◌, answered, refusal}
 use Rattle.cycle.specs.Cycle.{cycle_length, is_frame}

@@ -1,7 +1,6 @@
 -- Lists of one call and of none, and what two lists, one after the other, pay. Assumes nothing.
 use mathlib.Core.Path.{◌≡◌, refl}
 use mathlib.Core.List.{List, [], ◌∷◌, ◌++◌, append-nil}
-use Prim.Native.Nat.{ℕ}
 use Rattle.base.proofs.Lists.{concat_map-append}
 use Rattle.labelling.specs.Calls.{TakeCall, take_refusal, answer, taken, pays, Call, takes, paid_by, joined, paid, Handed, done, accepted}
 

@@ -11,7 +11,6 @@ use lib.Seq.{take-add}
 use Rattle.base.specs.Lists.{one}
 use Rattle.labelling.specs.declared.Operators.{Operators}
 use Rattle.labelling.specs.declared.Tally.{Tally}
-use Rattle.labelling.specs.Operators.{booked}
 use Rattle.labelling.specs.Calls.{TakeCall, take_refusal, Answer, answer, taken, pays, Call, takes, joined, paid, Handed, done, refused}
 use Rattle.labelling.proofs.Reaching.{handed-append, joined-append}
 use Rattle.labelling.proofs.Demand.{handed-rule}

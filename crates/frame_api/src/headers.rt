@@ -5,16 +5,14 @@ ghost use Rattle.frame_api.specs.Headers.{CheckCrossed, RepairCrossed};
 use vcdu_header::{Checked, Repaired};
 
 // Writes the check symbols into the last two bytes.
-#[unsafe(no_mangle)]
-pub extern "C" fn pcd_encode_header(header: &mut [u8]) -> u8
+pub fn pcd_encode_header(header: &mut [u8]) -> u8
     ensures { EncodePromise header.old header.new result }
 {
     vcdu_header::encode(header)
 }
 
 // Whether the ten symbols are a code word: 1 or 0.
-#[unsafe(no_mangle)]
-pub extern "C" fn pcd_check_header(header: &[u8], out: &mut u64) -> u8
+pub fn pcd_check_header(header: &[u8], out: &mut u64) -> u8
     ensures { CheckCrossed header.now result out.old out.new }
 {
     match vcdu_header::check(header) {
@@ -33,8 +31,7 @@ pub extern "C" fn pcd_check_header(header: &[u8], out: &mut u64) -> u8
 }
 
 // Puts the code word within two symbols into the header; `out` gets how many symbols were wrong.
-#[unsafe(no_mangle)]
-pub extern "C" fn pcd_repair_header(header: &mut [u8], out: &mut u64) -> u8
+pub fn pcd_repair_header(header: &mut [u8], out: &mut u64) -> u8
     ensures { RepairCrossed header.old header.new result out.old out.new }
 {
     match vcdu_header::repair(header) {

@@ -1,5 +1,5 @@
-// What goes with frames for programs in other languages: exported entries over VCDU headers, the data pointer and the frame store. include/pcd.h
-// declares them for C.
+// What goes with frames for programs in other languages: entries over VCDU headers, the data pointer
+// and the frame store. `frame_api_c` exports them, and include/pcd.h declares them for C.
 #![tactic(auto)]
 
 mod headers;

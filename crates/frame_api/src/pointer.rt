@@ -6,8 +6,7 @@ ghost use Rattle.frame_api.specs.Pointer.{PointerCrossed};
 use data_pointer::Answer;
 
 // The pointer of the next frame.
-#[unsafe(no_mangle)]
-pub extern "C" fn pcd_next_pointer(p: u64, out: &mut u64) -> u8
+pub fn pcd_next_pointer(p: u64, out: &mut u64) -> u8
     ensures { PointerCrossed (pointer_lines p) (next p) result out.old out.new }
 {
     match data_pointer::next(p) {
@@ -22,8 +21,7 @@ pub extern "C" fn pcd_next_pointer(p: u64, out: &mut u64) -> u8
 }
 
 // The pointer of the frame before.
-#[unsafe(no_mangle)]
-pub extern "C" fn pcd_previous_pointer(p: u64, out: &mut u64) -> u8
+pub fn pcd_previous_pointer(p: u64, out: &mut u64) -> u8
     ensures { PointerCrossed (pointer_lines p) (previous p) result out.old out.new }
 {
     match data_pointer::previous(p) {
@@ -38,8 +36,7 @@ pub extern "C" fn pcd_previous_pointer(p: u64, out: &mut u64) -> u8
 }
 
 // The pointer n frames on.
-#[unsafe(no_mangle)]
-pub extern "C" fn pcd_pointer_after(p: u64, n: u64, out: &mut u64) -> u8
+pub fn pcd_pointer_after(p: u64, n: u64, out: &mut u64) -> u8
     ensures { PointerCrossed (after_lines p n) (steps n p) result out.old out.new }
 {
     match data_pointer::after(p, n) {
@@ -54,8 +51,7 @@ pub extern "C" fn pcd_pointer_after(p: u64, n: u64, out: &mut u64) -> u8
 }
 
 // The frames from p on to q.
-#[unsafe(no_mangle)]
-pub extern "C" fn pcd_pointer_distance(p: u64, q: u64, out: &mut u64) -> u8
+pub fn pcd_pointer_distance(p: u64, q: u64, out: &mut u64) -> u8
     ensures { PointerCrossed (distance_lines p q) (frames p q) result out.old out.new }
 {
     match data_pointer::distance(p, q) {

@@ -4,8 +4,7 @@ ghost use Rattle.frame_store.specs.Answers.{slot_refusal};
 ghost use Rattle.frame_api.specs.Slots.{StoreCrossed, ReleaseCrossed};
 
 // Puts a frame into the lowest free slot; `bits` gets the bits afterwards, and `slot` the slot.
-#[unsafe(no_mangle)]
-pub extern "C" fn pcd_store(area: &mut [u8], bits: &mut u64, frame: &[u8], slot: &mut u64) -> u8
+pub fn pcd_store(area: &mut [u8], bits: &mut u64, frame: &[u8], slot: &mut u64) -> u8
     ensures { StoreCrossed
         area.old bits.old frame.now slot.old result
         area.new bits.new slot.new }
@@ -20,8 +19,7 @@ pub extern "C" fn pcd_store(area: &mut [u8], bits: &mut u64, frame: &[u8], slot:
 }
 
 // Frees a slot; `bits` gets the bits afterwards.
-#[unsafe(no_mangle)]
-pub extern "C" fn pcd_release(area: &[u8], bits: &mut u64, slot: u64) -> u8
+pub fn pcd_release(area: &[u8], bits: &mut u64, slot: u64) -> u8
     ensures { ReleaseCrossed area.now bits.old slot result bits.new }
 {
     let released = frame_store::release(area, *bits, slot);
@@ -30,8 +28,7 @@ pub extern "C" fn pcd_release(area: &[u8], bits: &mut u64, slot: u64) -> u8
 }
 
 // 0 where a slot holds a frame, which then begins at 16,384 times the slot's number.
-#[unsafe(no_mangle)]
-pub extern "C" fn pcd_slot_refusal(area: &[u8], bits: u64, slot: u64) -> u8
+pub fn pcd_slot_refusal(area: &[u8], bits: u64, slot: u64) -> u8
     ensures { result ≡ slot_refusal area.now bits slot }
 {
     frame_store::slot_refusal(area, bits, slot)

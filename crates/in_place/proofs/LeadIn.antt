@@ -1,17 +1,17 @@
 -- The lead-in, fed a byte at a time where a lock awaits its word, is three groups of equal copies: so it leaves `led_in` under either rule, and the
 -- call after it begins there. Assumes nothing.
-use mathlib.Core.Path.{◌≡◌, refl, sym, ap, subst, ◌∙◌}
+use mathlib.Core.Path.{◌≡◌, refl, sym, ap, ◌∙◌}
 use mathlib.Core.Bool.{Bool, true, false}
 use mathlib.Core.List.{List, [], ◌∷◌}
 use Prim.Native.Nat.{ℕ, ◌+◌, ◌^◌, ◌≤◌, ◌<◌}
 use native.Mathlib.Omega.{arith}
 use lib.ListN.{length, get_or}
 use lib.Seq.{length-sets}
-use Rattle.base.specs.Format.{SYNC, sync_word, minor_frame, major_frame}
+use Rattle.base.specs.Format.{SYNC, sync_word, major_frame}
 use Rattle.labelling.specs.declared.Framing.{Framing}
 use Rattle.labelling.specs.declared.Tally.{Tally}
 use Rattle.labelling.specs.Votes.{rule_vote}
-use Rattle.labelling.specs.Machine.{State, state_of, with_state, with_operators}
+use Rattle.labelling.specs.Machine.{State, state_of, with_state}
 use Rattle.labelling.specs.Order.{in_order}
 use Rattle.labelling.specs.Calls.{TakeCall, take_refusal, Answer, Progress, answer, answer_with, feed}
 use Rattle.labelling.proofs.CallLaws.{passed, no_refusal, accepted-answer, answer-ordered}
@@ -19,7 +19,7 @@ use Rattle.labelling.proofs.Feeding.{loop_start}
 use Rattle.labelling.proofs.Votes.{unanimous}
 use Rattle.nominal.specs.Stretches.{Group, Nominal, ends, group}
 use Rattle.nominal.proofs.Effect.{plain_feed, placed-plain}
-use Rattle.own_sync.specs.Relocking.{lead_in_bytes, lead_in, after_lead_in}
+use Rattle.own_sync.specs.Relocking.{lead_in_bytes, lead_in}
 use Rattle.quiet.specs.Quiet.{Byte}
 use Rattle.reader.specs.Shapes.{call_of, locked_by}
 use Rattle.tally_numbers.specs.Numbers.{framing_of, tally_of}

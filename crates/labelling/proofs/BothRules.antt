@@ -1,17 +1,16 @@
 -- One stream under both rules. A byte that splits no group under rule 1 does the same under any vote in which two equal copies decide, and so
 -- does a call; so the calls of a list that splits none, run once more under rule 2, leave and pay the same, and demand 3 carries that to every
 -- list with the same shifts. Assumes nothing.
-use mathlib.Core.Path.{◌≡◌, refl, sym, ap, ap₂, ◌∙◌}
-use mathlib.Core.Bool.{Bool, true, false, cond}
+use mathlib.Core.Path.{◌≡◌, refl, sym, ap, ◌∙◌}
+use mathlib.Core.Bool.{Bool, true, false}
 use mathlib.Core.List.{List, [], ◌∷◌, ◌++◌, map}
 use mathlib.Core.Option.{some}
-use Prim.Native.Nat.{ℕ, zero, suc, ◌+◌, ◌*◌, ◌≤◌}
+use Prim.Native.Nat.{ℕ, zero, suc, ◌≤◌}
 use native.Mathlib.Omega.{arith}
 use lib.Dec.{eqb}
-use lib.ListN.{length, take, drop}
+use lib.ListN.{length}
 use lib.Seq.{take-append_seam, drop-append_seam}
 use borrow.Author.Tests.{ne_eqb}
-use Rattle.base.specs.Lists.{concat_map}
 use Rattle.labelling.specs.declared.Groups.{Groups}
 use Rattle.labelling.specs.declared.Tally.{Tally}
 use Rattle.labelling.specs.declared.Word.{Word}
@@ -20,12 +19,12 @@ use Rattle.labelling.specs.Words.{Vote, byte_vote, weak_copy, as-split, labelled
 use Rattle.labelling.specs.Votes.{rule_vote, Majority}
 use Rattle.labelling.specs.Machine.{closes, after_byte, State, state_of, with_rule, fresh, Now, word_step, word_given, byte_event, byte_step}
 use Rattle.labelling.specs.Order.{in_order}
-use Rattle.labelling.specs.Calls.{TakeCall, take_refusal, Progress, and_one, answer_with, feed, answer, taken, pays}
+use Rattle.labelling.specs.Calls.{TakeCall, take_refusal, Progress, and_one, feed, answer, taken, pays}
 use Rattle.labelling.specs.Calls.{DutyCall, duty_refusal, duty_answer, Call, takes, changes, refusal_of, last_duty, paid_by}
 use Rattle.labelling.specs.Calls.{joined, paid, stamped, Handed, done, refused, accepted, changed}
 use Rattle.labelling.specs.SideBySide.{ends, refused_here, refused_there, both_take, both_change, SameCuts}
 use Rattle.labelling.specs.BothRules.{SameShifts, under_rule, SameAnswers, Alike}
-use Rattle.labelling.specs.Once.{majors_in, Once}
+use Rattle.labelling.specs.Once.{Once}
 use Rattle.labelling.proofs.Votes.{majority, same_word}
 use Rattle.labelling.proofs.Ordered.{split_grows, TallyOrdered, tally_ordered, tally_in_order}
 use Rattle.labelling.proofs.Feeding.{feed-complete, feed-more, feed-taken, feed-grows}

@@ -3,9 +3,9 @@
 use mathlib.Core.Path.{◌≡◌, refl, sym, ap, ◌∙◌}
 use mathlib.Core.Bool.{Bool, true, false, ◌&&◌}
 use mathlib.Core.List.{List, [], ◌∷◌, ◌++◌, map, append_assoc, append-nil, map-append}
-use Prim.Native.Nat.{ℕ, zero, suc, ◌+◌, ◌≤◌, ◌<◌}
+use Prim.Native.Nat.{ℕ, suc, ◌+◌, ◌≤◌, ◌<◌}
 use native.Mathlib.Omega.{arith}
-use lib.Dec.{eqb, ltb, eqb-suc-zero}
+use lib.Dec.{eqb, eqb-suc-zero}
 use lib.ListN.{length, take, length-append, length-take}
 use lib.Seq.{take-take}
 use borrow.Author.Tests.{lt-ltb, le-ltb}
@@ -15,7 +15,7 @@ use Rattle.labelling.specs.declared.Tally.{Tally}
 use Rattle.labelling.specs.declared.Word.{Word}
 use Rattle.labelling.specs.Words.{Vote}
 use Rattle.labelling.specs.Operators.{paid_to, booked, on_duty}
-use Rattle.labelling.specs.Calls.{TakeCall, take_refusal, answer, taken, DutyCall, duty_refusal, duty_answer, Call, takes, changes, duty_after, last_duty}
+use Rattle.labelling.specs.Calls.{TakeCall, answer, taken, duty_answer, Call, takes, changes, duty_after, last_duty}
 use Rattle.labelling.specs.Calls.{taken_by, joined, stamped, Handed, done, refused, accepted, changed}
 use Rattle.labelling.specs.Once.{majors_in, Pays, PaysAt, Each, completes_at, frames_on}
 use Rattle.labelling.proofs.Booking.{booked-length, booked-to}

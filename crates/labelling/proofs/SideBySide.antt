@@ -1,9 +1,9 @@
 -- Two lists of calls side by side: what each call of a list is handed, and that the same cuts give the same duties. Assumes nothing.
 use mathlib.Core.Path.{◌≡◌, refl, sym, ap, ◌∙◌}
 use mathlib.Core.List.{List, [], ◌∷◌, ◌++◌, map, append_assoc, map-append}
-use Prim.Native.Nat.{ℕ, suc, ◌+◌}
+use Prim.Native.Nat.{ℕ, suc}
 use native.Mathlib.Omega.{arith}
-use lib.Dec.{eqb, eqb-suc-zero}
+use lib.Dec.{eqb-suc-zero}
 use lib.ListN.{length}
 use lib.Seq.{length-take-le}
 use Rattle.labelling.specs.declared.Tally.{Tally}

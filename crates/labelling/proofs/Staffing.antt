@@ -5,10 +5,8 @@ use mathlib.Core.List.{List, [], ◌∷◌, ◌++◌, map, append_assoc, append-
 use Prim.Native.Nat.{ℕ, ◌+◌, ◌^◌, ◌≤◌}
 use native.Mathlib.Omega.{arith}
 use lib.ListN.{length, length-append}
-use Rattle.base.specs.Lists.{concat_map}
 use Rattle.labelling.specs.declared.Tally.{Tally}
-use Rattle.labelling.specs.Rest.{latest}
-use Rattle.labelling.specs.Calls.{DutyCall, duty_refusal, duty_answer, Call, changes, duty_after, last_duty, taken_by, joined, stamped, done, changed}
+use Rattle.labelling.specs.Calls.{DutyCall, duty_refusal, duty_answer, Call, changes, duty_after, last_duty, joined, stamped, done, changed}
 use Rattle.labelling.specs.Calls.{Reads, no_call, takes_all, stops}
 use Rattle.labelling.specs.Once.{ReadBySome, Shift, bytes_in, AllOperators, WorkedBySome}
 use Rattle.labelling.proofs.CallLaws.{duty_no_refusal, duty_accepted, duty_rule, duty_ordered}

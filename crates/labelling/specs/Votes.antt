@@ -2,7 +2,6 @@
 -- whichever it is. Definitions only.
 use Rattle.std.specs.Prelude.{◌≡◌, cond, ℕ, zero, suc, ◌+◌, ◌*◌, ◌/◌, ◌%◌, ◌^◌, ◌≤◌, eqb, leb}
 use Rattle.base.specs.Lists.{one}
-use Rattle.labelling.specs.declared.Word.{Word}
 use Rattle.labelling.specs.declared.Word.TheVariants.{Voted, Erased}
 use Rattle.labelling.specs.Words.{Vote, byte_vote}
 

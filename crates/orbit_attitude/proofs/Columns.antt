@@ -13,7 +13,7 @@ use Rattle.orbit_attitude.specs.Record.{attitude_in}
 
 -- an integer that fits 64 bits is its bits, read as signed
 pub as_returned : (z : ℤ) → mag z < 2 ^ 63 → to_z w64 (of_z w64 z) ≡ z
-as_returned z h = to_z-of_z (record { sfits = h })
+as_returned z h = to_z-of_z {w = w64} (record { sfits = h })
 
 module _ (c : List ℕ) where
   pub attitude_is : (i : ℕ) (e1 e2 e3 e4 : ℤ) → e1 ≡ signed (word c 0) → e2 ≡ signed (word c 4) → e3 ≡ signed (word c 8) → e4 ≡ signed (word c 12)

@@ -12,7 +12,7 @@ use Rattle.base.specs.Lists.{concat_map}
 use Rattle.base.proofs.Lists.{concat_map-append}
 use Rattle.labelling.specs.declared.Groups.{Groups}
 use Rattle.labelling.specs.declared.Word.{Word}
-use Rattle.labelling.specs.Words.{outside, Group, closed, groups, bytes_of, Vote, word_of, words}
+use Rattle.labelling.specs.Words.{outside, Group, groups, bytes_of, Vote, word_of, words}
 use Rattle.labelling.specs.Machine.{start}
 use Rattle.labelling.proofs.ByteLayer.{GroupsInv, groups_start, groups_step, groups_whole}
 use Rattle.own_sync.specs.OwnCut.{own_found}

@@ -14,7 +14,6 @@ use Rattle.base.proofs.Refusals.{answered-of, answered-number, answered-append, 
 use Rattle.time_code.specs.declared.Decoded.{Decoded as TimeDecoded}
 use Rattle.time_code.specs.declared.Decoded.TheVariants.{Time, Refused as NoTime}
 use Rattle.time_code.specs.Codec.{decode_lines as timeLines, decoded as timeDecoded, number_of as timeRefused, time_of}
-use Rattle.time_code.specs.Fields.{instant}
 use Rattle.time_code.specs.Promise.{DecodePromise as TimePromise}
 use Rattle.float1750.specs.declared.Decoded.{Decoded as NumberDecoded}
 use Rattle.float1750.specs.declared.Decoded.TheVariants.{Number, Refused as NoNumber}

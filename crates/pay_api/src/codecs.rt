@@ -4,8 +4,7 @@ ghost use Rattle.pay_api.specs.Entries.{InstantAnswer, NumberAnswer};
 use crate::answers;
 
 // The instant of a seven-byte time of a year. Refused: 2, not seven bytes; 13, the year; 8, a digit or a field.
-#[unsafe(no_mangle)]
-pub extern "C" fn pcd_pay_instant(bytes: &[u8], year: u64, answer: &mut [u8]) -> u8
+pub fn pcd_pay_instant(bytes: &[u8], year: u64, answer: &mut [u8]) -> u8
     ensures { InstantAnswer year bytes.now result answer.old answer.new }
 {
     let d = time_code::decode(year, bytes);
@@ -16,8 +15,7 @@ pub extern "C" fn pcd_pay_instant(bytes: &[u8], year: u64, answer: &mut [u8]) ->
 }
 
 // The 64 bits of the double that six bytes stand for. Refused: 2, not six bytes; 10, not normalised.
-#[unsafe(no_mangle)]
-pub extern "C" fn pcd_pay_number(bytes: &[u8], answer: &mut [u8]) -> u8
+pub fn pcd_pay_number(bytes: &[u8], answer: &mut [u8]) -> u8
     ensures { NumberAnswer bytes.now result answer.old answer.new }
 {
     let d = float1750::decode(bytes);

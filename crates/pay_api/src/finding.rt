@@ -9,8 +9,7 @@ const UPPER: u64 = 1 << 32;
 
 // The last of the instants at or before the wanted one: its place plus one in the upper half, 0 for none, and the entries looked at in the lower.
 // Refused: 2, no whole number of instants; 12, more than 100,000.
-#[unsafe(no_mangle)]
-pub extern "C" fn pcd_pay_find(instants: &[u8], wanted: u64, answer: &mut [u8]) -> u8
+pub fn pcd_pay_find(instants: &[u8], wanted: u64, answer: &mut [u8]) -> u8
     ensures { FindAnswer instants.now wanted result answer.old answer.new }
 {
     match lookup_bytes::find(instants, wanted) {

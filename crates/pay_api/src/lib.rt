@@ -1,5 +1,6 @@
 // The pay system's entries, for programs in C (paper 02, request 14): on numbers and byte slices alone, over the votes, the codecs and the lookup.
-// include/pcd.h declares them. Each returns the number of the refusal, 0 for none, and writes it and the result into a lent answer of 16 bytes.
+// `pay_api_c` exports them, and include/pcd.h declares them. Each returns the number of the refusal,
+// 0 for none, and writes it and the result into a lent answer of 16 bytes.
 #![tactic(auto)]
 
 mod answers;

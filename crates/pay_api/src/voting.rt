@@ -10,8 +10,7 @@ use labelling::Word;
 const SPLIT: u64 = 256;
 
 // The byte that at least two copies have; 256 where all three differ.
-#[unsafe(no_mangle)]
-pub extern "C" fn pcd_pay_vote_bytes(a: u8, b: u8, c: u8, answer: &mut [u8]) -> u8
+pub fn pcd_pay_vote_bytes(a: u8, b: u8, c: u8, answer: &mut [u8]) -> u8
     ensures { VoteAnswer (byte_vote a b c) result answer.old answer.new }
 {
     let voted = votes::vote(a, b, c);
@@ -20,8 +19,7 @@ pub extern "C" fn pcd_pay_vote_bytes(a: u8, b: u8, c: u8, answer: &mut [u8]) -> 
 }
 
 // Each bit is the one that at least two copies have.
-#[unsafe(no_mangle)]
-pub extern "C" fn pcd_pay_vote_bits(a: u8, b: u8, c: u8, answer: &mut [u8]) -> u8
+pub fn pcd_pay_vote_bits(a: u8, b: u8, c: u8, answer: &mut [u8]) -> u8
     ensures { VoteAnswer (bit_vote a b c) result answer.old answer.new }
 {
     let voted = votes::vote_bits(a, b, c);

@@ -1,12 +1,11 @@
 -- A call that is refused, and one that is not: from what was left to what `take` or `take_to_lock` promises. Assumes nothing.
-use mathlib.Core.Path.{◌≡◌, refl, sym, ap, ◌∙◌}
+use mathlib.Core.Path.{◌≡◌, refl, sym, ap, subst, ◌∙◌}
 use mathlib.Core.Bool.{Bool, true, false, true≢false}
 use mathlib.Core.List.{List}
 use Prim.Native.Nat.{ℕ, zero, suc, ◌+◌, ◌^◌, ◌≤◌}
 use native.Mathlib.Omega.{arith}
 use lib.ListN.{length}
 use Rattle.base.specs.Format.{major_frame}
-use Rattle.base.specs.Lists.{one}
 use Rattle.labelling.specs.declared.Tally.{Tally}
 use Rattle.labelling.specs.Votes.{rule_vote}
 use Rattle.labelling.specs.Machine.{state_of}
@@ -14,9 +13,8 @@ use Rattle.labelling.specs.Order.{in_order}
 use Rattle.labelling.specs.Calls.{TakeCall, Answer, Progress, answer_with, feed, take_refusal, answer}
 use Rattle.labelling.proofs.Feeding.{Extent, feed-extent}
 use Rattle.labelling.proofs.CallLaws.{no_refusal, refused-answer, accepted-answer, answer-ordered}
-use Rattle.own_sync.specs.Locks.{locks, up_to, to_lock}
+use Rattle.own_sync.specs.Locks.{to_lock}
 use Rattle.own_sync.proofs.Locks.{up_shorter, up_all, part-accepted}
-use Rattle.reader.specs.declared.Locked.{Locked}
 use Rattle.reader.specs.declared.Taken.{Taken}
 use Rattle.reader.specs.Shapes.{call_of, answer_of, refused_with, TakePromise, part_of, PartPromise, locked_by, LockPromise}
 use Rattle.reader.proofs.Parts.{not_at_once, PartRead, part-read}
@@ -37,7 +35,8 @@ module _ {t : Tally} {p a : List ℕ} where
   accepted-promise {r} {a'} z q e =
       let c = call_of t p a in
       let same : answer_of r a' ≡ answer c = e ∙ sym (accepted-answer c q) in
-      let extent : Extent p (answer_of r a').taken (answer_of r a').complete = rw e (feed-extent (rule_vote t.rule) (state_of t) a p) in
+      let extent : Extent p (answer_of r a').taken (answer_of r a').complete =
+      subst (λ (x : Answer). Extent p x.taken x.complete) (sym e) (feed-extent (rule_vote t.rule) (state_of t) a p) in
       record {
         refusal_is = z ∙ sym q;
         answer_is = same;

@@ -26,8 +26,8 @@ use Rattle.own_sync.specs.Locks.{ends_hunt, locks, up_to}
 use Rattle.own_sync.proofs.Locks.{same-mode, locks-byte, stops_at, up_stop, up_on}
 use Rattle.quiet.specs.Quiet.{Byte, Quiet}
 use Rattle.nominal.specs.Stretches.{Stored, Hunted, last_or}
-use Rattle.nominal.specs.Effect.{Leads, PlainSteps, stays, byte, with_words, with_quiet, with_placed, with_hunted, after_quiet}
-use Rattle.nominal.proofs.Effect.{plain_join, plain_ordered, plain_bytes, sync-opens, first-opens, group_opens, quiet_plain, placed-plain, hunted_plain}
+use Rattle.nominal.specs.Effect.{Leads, PlainSteps, stays, byte, with_words, with_quiet, with_placed, with_hunted}
+use Rattle.nominal.proofs.Effect.{plain_ordered, plain_bytes, sync-opens, first-opens, group_opens, quiet_plain, placed-plain, hunted_plain}
 use Rattle.plain_steps.specs.declared.layers.Layers.{Layers}
 use Rattle.plain_steps.specs.Shapes.{state_with}
 use Rattle.reader_run.specs.Onward.{Begun, Moment, fed, rest_from, ends_at, locks_at, halts, Onward, Reaches, Words, opened, ByteOr}

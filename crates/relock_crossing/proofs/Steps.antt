@@ -17,7 +17,7 @@ use Rattle.relocking.specs.declared.Feeder.{Feeder}
 use Rattle.relocking.specs.declared.Relocked.{Relocked}
 use Rattle.relocking.specs.Relock.{stands_at_lock, feeder_in_order, relock_refusal, call_led, ReadsOn, LeadsIn, RelockPromise}
 use Rattle.relocking.proofs.Relocking.{not_in_order as feeder-not-in-order, wrong-area as step-wrong-area, Accepts, accepts, accepted-by}
-use Rattle.relocking.proofs.Relocking.{InOrder, in_order, order_of, locked-so, called-so}
+use Rattle.relocking.proofs.Relocking.{InOrder, feeder_ordered, order_of, locked-so, called-so}
 use Rattle.tally_numbers.specs.Numbers.{is_tally, tally_of}
 use Rattle.in_place.specs.declared.Locked.{Locked}
 use Rattle.in_place.specs.declared.Part.{Part}
@@ -190,7 +190,7 @@ module _ (n frame feeder piece : List ℕ) (ends : Bool) (old : List ℕ) where
         a = accepts f (length piece) (length old) passed.1
 
         order : InOrder f
-        order = in_order f a.order
+        order = feeder_ordered f a.order
 
         few : get_or feeder 0 0 < 2
         few = (feeder_tally n feeder passed.0).1

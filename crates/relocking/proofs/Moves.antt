@@ -23,7 +23,7 @@ use Rattle.relocking.specs.declared.Feeder.{Feeder}
 use Rattle.relocking.specs.declared.Relocked.{Relocked}
 use Rattle.relocking.specs.Relock.{relock_refusal, reads, before_group, gives_first, move, call_on, RelockPromise, ReadsOn, LeadsIn}
 use Rattle.relocking.proofs.Waiting.{NoSync, Waits, passes_all, quiet_all, quiet_words}
-use Rattle.relocking.proofs.Relocking.{accepts, InOrder, in_order, waits_now, left_is, step_reads, step_asks, step_leads}
+use Rattle.relocking.proofs.Relocking.{accepts, InOrder, feeder_ordered, waits_now, left_is, step_reads, step_asks, step_leads}
 
 -- ---- the bytes before the first SYNC
 
@@ -98,7 +98,7 @@ module _ (f : Feeder) (piece : List ℕ) (ends : Bool) (old : List ℕ) (a : rel
   vote = rule_vote f.tally.rule
 
   order : InOrder f
-  order = in_order f (accepts f (length piece) (length old) a).order
+  order = feeder_ordered f (accepts f (length piece) (length old) a).order
 
   all_of : take (length piece) piece ≡ piece
   all_of = take_all (length piece) piece (omega arith)

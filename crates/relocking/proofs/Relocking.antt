@@ -88,9 +88,9 @@ pub record InOrder (f : Feeder) : Type 0 where
   pub at-lock : (not f.awaits || stands_at_lock f.tally) ≡ true
   pub few : f.handed ≤ f.tally.groups.bytes / 12
 
-pub in_order : (f : Feeder) → feeder_in_order f ≡ true → InOrder f
+pub feeder_ordered : (f : Feeder) → feeder_in_order f ≡ true → InOrder f
 unfolding feeder_in_order
-in_order f e =
+feeder_ordered f e =
     let x = and_both (in_order f.tally && (not f.awaits || stands_at_lock f.tally)) (leb f.handed (f.tally.groups.bytes / 12)) e in
     let y = and_both (in_order f.tally) (not f.awaits || stands_at_lock f.tally) x.0 in
     record { in_tally = y.0; at-lock = y.1; few = leb-true _ _ x.1 }
@@ -120,7 +120,7 @@ waits_or_not false t h = refl
 pub call-accepted : (f : Feeder) (part old : List ℕ) → relock_refusal f (length part) (length old) ≡ 0 → take_refusal (call_of f.tally part old) ≡ 0
 call-accepted f part old e =
     let a = accepts f (length part) (length old) e in
-    no_refusal f.tally part old (in_order f a.order).in_tally a.whole-area (omega (arith, a.fits))
+    no_refusal f.tally part old (feeder_ordered f a.order).in_tally a.whole-area (omega (arith, a.fits))
 
 -- ---- one call as far as a lock
 
@@ -180,7 +180,7 @@ module _ (f : Feeder) (piece old : List ℕ) (a : relock_refusal f (length piece
   accepting = accepts f (length piece) (length old) a
 
   in_tally : in_order f.tally ≡ true
-  in_tally = (in_order f accepting.order).in_tally
+  in_tally = (feeder_ordered f accepting.order).in_tally
 
   lead-accepted : take_refusal lead ≡ 0
   lead-accepted = no_refusal f.tally lead_in_bytes old in_tally accepting.whole-area (omega (arith, accepting.fits))
@@ -212,7 +212,7 @@ module _ (f : Feeder) (piece old : List ℕ) (a : relock_refusal f (length piece
 pub few_handed : (f : Feeder) (piece area : ℕ) → relock_refusal f piece area ≡ 0 → f.handed ≤ 2 ^ 40
 few_handed f piece area e =
     let a = accepts f piece area e in
-    omega (arith, (in_order f a.order).few, a.fits)
+    omega (arith, (feeder_ordered f a.order).few, a.fits)
 
 -- ---- a step
 
@@ -283,7 +283,7 @@ module _ (f : Feeder) (piece : List ℕ) (ends : Bool) (old : List ℕ) (a : rel
 
     step_order : (ends ≡ true → (answer (to_lock c)).taken < length piece) → feeder_in_order (called c (waits || locked c) f.handed).feeder ≡ true
     step_order not-all =
-        let order = in_order f (accepts f (length piece) (length old) a).order in
+        let order = feeder_ordered f (accepts f (length piece) (length old) a).order in
         order_of _ record {
           in_tally = answer-ordered (to_lock c) order.in_tally;
           at-lock = either waits (locked c) (answer (to_lock c)).tally (λ w. waiting p.accepted w not-all)
@@ -341,7 +341,7 @@ module _ (f : Feeder) (piece : List ℕ) (ends : Bool) (old : List ℕ) (a : rel
   d = call_led f piece old
 
   order : InOrder f
-  order = in_order f (accepts f (length piece) (length old) a).order
+  order = feeder_ordered f (accepts f (length piece) (length old) a).order
 
   at-lock : Waits (state_of f.tally)
   at-lock = waits_now f order z

@@ -6,7 +6,7 @@ use native.Mathlib.Nat.{zero-add, add-zero, add-suc, suc-add}
 use native.Mathlib.Omega.{arith}
 use lib.ListN.{length, length-append, get_or, set}
 use lib.Seq.{sets}
-use Rattle.base.specs.Format.{SYNC, FILL, sync_word}
+use Rattle.base.specs.Format.{SYNC, sync_word}
 use Rattle.quiet.specs.Quiet.{Byte, Quiet, ToSync}
 use Rattle.quiet.specs.Quiet as quiet
 use Rattle.quiet.proofs.Joining.{quiet_far}
@@ -17,7 +17,7 @@ use Rattle.nominal.proofs.Joining.{nominal_join, four-fill, one-fill}
 use Rattle.voted.specs.declared.hunting.Hunt.{Hunt}
 use Rattle.voted.specs.declared.placing.Run.{Run}
 use Rattle.voted.specs.Copies.{Copies, copies, copies_at, IsVoted, word_of, words, weak_in, last_or, agreement, agreements, Summed}
-use Rattle.voted.specs.Stretches.{Group, Spaced, Alike, Decided, ends, fill, stray, group, LastAt, Stops, Kept, RunsOn, Longest, no_group, Placed}
+use Rattle.voted.specs.Stretches.{Group, Spaced, Alike, Decided, ends, fill, stray, group, Stops, Kept, RunsOn, Longest, no_group, Placed}
 use Rattle.voted.specs.Stretches.{most_groups, LeftTo, Going, Sought, none_passed, Hunted}
 use Rattle.voted.proofs.Agreeing.{agreement-few, split_of, voted_of, alike-agreement, alike-word, alike, summed_of}
 

@@ -1,6 +1,5 @@
 -- The copies of many groups in three columns, a lane for each group. Definitions only.
-use Rattle.std.specs.Prelude.{◌≡◌, List, ℕ, zero, suc, ◌+◌, ◌*◌, ◌≤◌, ◌<◌, eqb, length, get_or, set}
-use Rattle.base.specs.Lists.{one}
+use Rattle.std.specs.Prelude.{◌≡◌, List, ℕ, zero, suc, ◌+◌, ◌*◌, ◌≤◌, ◌<◌, length, get_or, set}
 use Rattle.voted.specs.declared.blocks.Told.{Told}
 use Rattle.voted.specs.Copies.{Copies, copies, copies_at, IsVoted, word_of, agreement}
 use Rattle.voted.specs.Stretches.{Spaced}

@@ -4,8 +4,7 @@ ghost use Rattle.float1750.specs.Promise.{EncodePromise as NumberWritten};
 ghost use Rattle.word72_api.specs.LentPlaces.{time_code, TimeCrossed, NumberCrossed};
 
 // Reads a time code of a year; `out` gets the spacecraft, then the instant.
-#[unsafe(no_mangle)]
-pub extern "C" fn pcd_decode_time(year: u64, bytes: &[u8], out: &mut [u64; 2]) -> u8
+pub fn pcd_decode_time(year: u64, bytes: &[u8], out: &mut [u64; 2]) -> u8
     ensures { TimeCrossed year bytes.now result out.old out.new }
 {
     let d = time_code::decode(year, bytes);
@@ -21,8 +20,7 @@ pub extern "C" fn pcd_decode_time(year: u64, bytes: &[u8], out: &mut [u64; 2]) -
 }
 
 // Writes the time code of a spacecraft and an instant of a year.
-#[unsafe(no_mangle)]
-pub extern "C" fn pcd_encode_time(year: u64, spacecraft: u64, instant: u64, out: &mut [u8]) -> u8
+pub fn pcd_encode_time(year: u64, spacecraft: u64, instant: u64, out: &mut [u8]) -> u8
     ensures { TimeWritten year (time_code spacecraft instant) out.old out.new result }
 {
     let t = time_code::TimeCode {
@@ -33,8 +31,7 @@ pub extern "C" fn pcd_encode_time(year: u64, spacecraft: u64, instant: u64, out:
 }
 
 // Reads a number of MIL-STD-1750.
-#[unsafe(no_mangle)]
-pub extern "C" fn pcd_decode_number(bytes: &[u8], out: &mut f64) -> u8
+pub fn pcd_decode_number(bytes: &[u8], out: &mut f64) -> u8
     ensures { NumberCrossed bytes.now result out.old out.new }
 {
     let d = float1750::decode(bytes);
@@ -50,8 +47,7 @@ pub extern "C" fn pcd_decode_number(bytes: &[u8], out: &mut f64) -> u8
 }
 
 // Writes the six bytes of a double.
-#[unsafe(no_mangle)]
-pub extern "C" fn pcd_encode_number(x: f64, out: &mut [u8]) -> u8
+pub fn pcd_encode_number(x: f64, out: &mut [u8]) -> u8
     ensures { NumberWritten x out.old out.new result }
 {
     float1750::encode(x, out)

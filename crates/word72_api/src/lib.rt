@@ -1,4 +1,5 @@
-// Word 72 and its codecs for programs in other languages: exported entries. include/pcd.h declares them for C.
+// Word 72 and its codecs for programs in other languages. `word72_api_c` exports these entries, and
+// include/pcd.h declares them for C.
 #![tactic(auto)]
 
 mod codecs;

@@ -9,16 +9,14 @@ ghost use Rattle.word72_api.specs.Word72.{form_number, value_numbers, KindCrosse
 use subcom::{ColumnKind, Description, EightFlags, Form, ItemCount, Reading};
 
 // Puts word 72 of each minor frame of a major frame into the column.
-#[unsafe(no_mangle)]
-pub extern "C" fn pcd_gather(area: &[u8], column: &mut [u8]) -> u8
+pub fn pcd_gather(area: &[u8], column: &mut [u8]) -> u8
     ensures { GatherPromise area.now column.old column.new result }
 {
     subcom::gather(area, column)
 }
 
 // The kind of a column recorded in a year.
-#[unsafe(no_mangle)]
-pub extern "C" fn pcd_kind(year: u64, column: &[u8], out: &mut u64) -> u8
+pub fn pcd_kind(year: u64, column: &[u8], out: &mut u64) -> u8
     ensures { KindCrossed year column.now result out.old out.new }
 {
     match subcom::kind(year, column) {
@@ -33,8 +31,7 @@ pub extern "C" fn pcd_kind(year: u64, column: &[u8], out: &mut u64) -> u8
 }
 
 // How many items a kind has.
-#[unsafe(no_mangle)]
-pub extern "C" fn pcd_item_count(kind: u64, out: &mut u64) -> u8
+pub fn pcd_item_count(kind: u64, out: &mut u64) -> u8
     ensures { CountCrossed kind result out.old out.new }
 {
     match subcom::item_count(kind) {
@@ -49,8 +46,7 @@ pub extern "C" fn pcd_item_count(kind: u64, out: &mut u64) -> u8
 }
 
 // What an item is; `out` gets its form's number, its first place and its length.
-#[unsafe(no_mangle)]
-pub extern "C" fn pcd_describe(kind: u64, item: u64, out: &mut [u64; 3]) -> u8
+pub fn pcd_describe(kind: u64, item: u64, out: &mut [u64; 3]) -> u8
     ensures { DescribeCrossed kind item result out.old out.new }
 {
     match subcom::describe(kind, item) {
@@ -80,8 +76,7 @@ fn form_number(form: Form) -> u64
 }
 
 // Why a part of a column is refused, 0 where it is not.
-#[unsafe(no_mangle)]
-pub extern "C" fn pcd_part_refusal(column: &[u8], kind: u64, item: u64) -> u8
+pub fn pcd_part_refusal(column: &[u8], kind: u64, item: u64) -> u8
     ensures { result ≡ part_refusal column.now kind item }
 {
     subcom::part_refusal(column, kind, item)
@@ -89,8 +84,7 @@ pub extern "C" fn pcd_part_refusal(column: &[u8], kind: u64, item: u64) -> u8
 
 // What an item of a column recorded in a year reads as; `out` gets what that is (0 a count, 2 flags, 3 a number, 4 a time, 5 fill), then its
 // values, and `number` the double of a number. A 12-bit item is a count here.
-#[unsafe(no_mangle)]
-pub extern "C" fn pcd_read(
+pub fn pcd_read(
     year: u64,
     column: &[u8],
     kind: u64,

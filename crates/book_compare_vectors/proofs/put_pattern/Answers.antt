@@ -9,6 +9,3 @@ loop-i-smaller c = simp length-set (omega arith)
 
 pub loop-i-preserved : goal.loop-i-preserved
 loop-i-preserved c = simp length-set (omega arith)
-
-pub returns : goal.returns
-returns c = tt

@@ -4,7 +4,7 @@ use lib.ListN.{length}
 use Rattle.book_compare_vectors.proofs.put_sum.Given as goal
 
 abbrev pub invariant-loop-i : goal.invariant-loop-i
-invariant-loop-i l = l.i ≤ length l.table
+invariant-loop-i g l = l.i ≤ length l.table
 
 abbrev pub decreases-loop-i : goal.decreases-loop-i
-decreases-loop-i l = length l.table - l.i
+decreases-loop-i g l = length l.table - l.i

@@ -16,7 +16,7 @@ returns-then-part_refusal-ne0 c = body_refused _ _ (λ e. c.if-part_refusal-ne0.
 -- as many cycles as the book says, 255 at most
 counted : (c : After-cycles-n) → c.cycles-n.result ≤ 255
 counted c =
-    let t = found c.before in
+    let t = there c.args.bytes.now c.args.i (sym c.part_refusal.ensures ∙ c.if-part_refusal-ne0.false) in
     let s = t.size in
     omega (arith, count-is _ t.tested _ c.cycles-n.ensures)
 

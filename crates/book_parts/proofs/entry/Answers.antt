@@ -1,5 +1,4 @@
 -- `book_parts::entry` meets its contract: the place lies within the book, and the part is that one. Assumes nothing.
-use mathlib.Core.Path.{ap}
 use Rattle.book_parts.proofs.entry.Goals as goal
 
 pub returns : goal.returns

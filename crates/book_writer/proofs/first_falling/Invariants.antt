@@ -1,10 +1,7 @@
 -- `book_writer::first_falling` meets its contract: each instant so far rises. Assumes nothing.
-use mathlib.Core.Path.{◌≡◌, sym, ◌∙◌}
-use mathlib.Core.Bool.{true, false}
+use mathlib.Core.Path.{◌≡◌}
+use mathlib.Core.Bool.{false}
 use Prim.Native.Nat.{ℕ, ◌-◌, ◌≤◌, ◌<◌}
-use native.Mathlib.Omega.{arith}
-use borrow.Author.Count.{below_more}
-use Rattle.base.proofs.Ranges.{stopped, searched}
 use Rattle.book_writer.specs.Sought.{falling_row}
 use Rattle.book_writer.proofs.first_falling.Given as goal
 

@@ -6,4 +6,4 @@ pub returns : goal.returns
 returns c =
     let a = c.args in
     book-put a.year a.bodies.now a.n c.requires.1 a.out.now _ _ _ c.requires.2 c.put_header.ensures c.put_entries.ensures
-    c.copy.ensures.1
+    c.copy_from_slice.ensures.after

@@ -1,9 +1,10 @@
 use mathlib.Core.Path.{◌≡◌, refl, ap, ◌∙◌}
 use mathlib.Core.List.{◌++◌}
-use Prim.Native.Nat.{ℕ, ◌+◌, ◌*◌, ◌-◌, ◌≤◌}
+use Prim.Native.Nat.{ℕ, ◌+◌, ◌*◌}
 use native.Mathlib.Omega.{arith}
-use lib.ListN.{length, take, drop}
+use lib.ListN.{take, drop}
 use borrow.Rule.Slice.PartMut.{mid_len}
+use borrow.Author.Rules.{rules}
 use Rattle.base.specs.Ranges.{joined}
 use Rattle.book.specs.Layout.{entry}
 use Rattle.book_writer.specs.Writing.{bodies_in}
@@ -31,7 +32,7 @@ loop-i-preserved c =
     let is = entry-is y bodies n c.requires.1 i _ _ c.loop-i-test.true c.instant_in-instant.ensures c.body_start.ensures in
     let entry = c.put_entry.ensures ∙ is in (
       omega arith,
-      c.out-1.given.1 ∙ c.loop-i.invariant.1,
+      search rules,
       holds_more y bodies n c.requires.1 c.args.out.now i c.loop-i.out _ c.requires.2 c.loop-i-test.true c.loop-i.invariant.2 entry,
     )
 

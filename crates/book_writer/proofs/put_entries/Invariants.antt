@@ -1,14 +1,11 @@
 -- `book_writer::put_entries` meets its contract: behind the header stand the entries so far, and then what was there before. Assumes nothing.
-use mathlib.Core.Path.{◌≡◌, refl, ap, ◌∙◌}
+use mathlib.Core.Path.{◌≡◌}
 use mathlib.Core.List.{◌++◌}
-use Prim.Native.Nat.{ℕ, ◌+◌, ◌*◌, ◌-◌, ◌≤◌}
-use native.Mathlib.Omega.{arith}
+use Prim.Native.Nat.{◌+◌, ◌*◌, ◌-◌, ◌≤◌}
 use lib.ListN.{length, take, drop}
-use borrow.Rule.Slice.PartMut.{mid_len}
 use Rattle.base.specs.Ranges.{joined}
 use Rattle.book.specs.Layout.{entry}
 use Rattle.book_writer.specs.Writing.{bodies_in}
-use Rattle.book_writer.proofs.Stores.{entry-is, holds-none, holds_more}
 use Rattle.book_writer.proofs.put_entries.Given as goal
 
 abbrev pub invariant-loop-i : goal.invariant-loop-i

@@ -1,5 +1,8 @@
-use mathlib.Core.Path.{refl, sym, ◌∙◌}
+use mathlib.Core.Path.{◌≡◌, refl, sym, ◌∙◌}
+use Prim.Native.Nat.{◌-◌, ◌≤◌}
 use native.Mathlib.Omega.{arith}
+use lib.ListN.{length, drop}
+use Rattle.csv_fields.specs.Fields.{is_plain}
 use Rattle.csv_fields.proofs.Laws.{plain_goes_on, special_ends, plain_ends}
 use Rattle.csv_fields.proofs.is_plain.Goals as goal
 
@@ -8,9 +11,6 @@ loop-i-init c = (omega arith, refl)
 
 pub bounds-text-i : goal.bounds-text-i
 bounds-text-i c = omega arith
-
-pub is_special-requires : goal.is_special-requires
-is_special-requires c = tt
 
 pub returns-then-is_special : goal.returns-then-is_special
 returns-then-is_special c =

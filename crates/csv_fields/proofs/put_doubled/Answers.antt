@@ -1,21 +1,19 @@
-use mathlib.Core.Path.{◌∙◌}
+use mathlib.Core.Path.{refl, ◌∙◌}
+use Prim.Native.Nat.{◌≤◌, ◌-◌}
 use native.Mathlib.Omega.{arith}
+use lib.ListN.{length, take}
 use lib.Seq.{take_all}
+use Rattle.command.specs.Text.{Adds}
 use Rattle.command.proofs.TextLaws.{adds_append}
+use Rattle.csv_fields.specs.Fields.{doubled}
 use Rattle.csv_fields.proofs.Laws.{doubles_none, doubles_one_more}
 use Rattle.csv_fields.proofs.put_doubled.Goals as goal
-
-pub put-end-requires : goal.put-end-requires
-put-end-requires c = tt
 
 pub loop-i-init : goal.loop-i-init
 loop-i-init c = (omega arith, doubles_none c.put-end.ensures.counts c.args.text.now)
 
 pub bounds-text-i : goal.bounds-text-i
 bounds-text-i c = omega arith
-
-pub put_quoted-end-requires : goal.put_quoted-end-requires
-put_quoted-end-requires c = tt
 
 pub overflow_add-i : goal.overflow_add-i
 overflow_add-i c = omega arith

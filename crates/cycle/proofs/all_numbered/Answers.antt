@@ -1,10 +1,6 @@
-use mathlib.Core.Path.{◌≡◌}
 use mathlib.Core.Bool.{true, false}
-use Prim.Native.Nat.{ℕ, ◌-◌, ◌≤◌, ◌<◌}
 use native.Mathlib.Omega.{arith}
 use borrow.Author.Count.{below_more}
-use borrow.Author.Tests.{not-true, not-false}
-use Rattle.base.specs.Rows.{row}
 use Rattle.cycle.specs.Cycle.{is_numbered}
 use Rattle.cycle.proofs.Frames.{of_row, one-unnumbered, every-numbered}
 use borrow.Author.Rules.{rules}

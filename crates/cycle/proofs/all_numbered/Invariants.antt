@@ -1,13 +1,9 @@
 -- `cycle::all_numbered` meets its contract: each minor frame so far has its sync bytes and its number. Assumes nothing.
 use mathlib.Core.Path.{◌≡◌}
-use mathlib.Core.Bool.{true, false}
+use mathlib.Core.Bool.{true}
 use Prim.Native.Nat.{ℕ, ◌-◌, ◌≤◌, ◌<◌}
-use native.Mathlib.Omega.{arith}
-use borrow.Author.Count.{below_more}
-use borrow.Author.Tests.{not-true, not-false}
 use Rattle.base.specs.Rows.{row}
 use Rattle.cycle.specs.Cycle.{is_numbered}
-use Rattle.cycle.proofs.Frames.{of_row, one-unnumbered, every-numbered}
 use Rattle.cycle.proofs.all_numbered.Given as goal
 
 abbrev pub invariant-loop-number : goal.invariant-loop-number

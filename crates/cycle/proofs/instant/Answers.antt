@@ -10,7 +10,7 @@ answered : (d : After-decode) → instant_in d.decode.result ≡ instant_of d.ar
 answered d = instant-is _ _ _ _ d.time_bytes-code.ensures d.decode.ensures.answer
 
 pub returns-in-Time : goal.returns-in-Time
-returns-in-Time c = ap instant_in (sym c.t-1.given.1) ∙ answered (goal.at.returns-in-Time c).After-decode
+returns-in-Time c = ap instant_in (sym c.in-Time.is) ∙ answered (goal.at.returns-in-Time c).After-decode
 
 pub returns-in-Refused : goal.returns-in-Refused
-returns-in-Refused c = ap instant_in (sym c.enum_told-1.given.1) ∙ answered (goal.at.returns-in-Refused c).After-decode
+returns-in-Refused c = ap instant_in (sym c.in-Refused.is) ∙ answered (goal.at.returns-in-Refused c).After-decode

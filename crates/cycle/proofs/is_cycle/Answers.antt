@@ -1,11 +1,6 @@
-use mathlib.Core.Path.{◌≡◌}
 use mathlib.Core.Bool.{true, false}
-use Prim.Native.Nat.{ℕ, ◌-◌, ◌≤◌, ◌<◌}
 use native.Mathlib.Omega.{arith}
 use borrow.Author.Count.{below_more}
-use borrow.Author.Tests.{not-true, not-false}
-use Rattle.base.specs.Rows.{row}
-use Rattle.cycle.specs.Cycle.{is_major}
 use Rattle.cycle.proofs.Frames.{of_row, is_kth, other_length, one-other, every-major}
 use borrow.Author.Rules.{rules}
 use Rattle.cycle.proofs.is_cycle.Goals as goal

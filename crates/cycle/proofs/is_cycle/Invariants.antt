@@ -1,13 +1,9 @@
 -- `cycle::is_cycle` meets its contract: each major frame so far is of its kind. Assumes nothing.
 use mathlib.Core.Path.{◌≡◌}
-use mathlib.Core.Bool.{true, false}
+use mathlib.Core.Bool.{true}
 use Prim.Native.Nat.{ℕ, ◌-◌, ◌≤◌, ◌<◌}
-use native.Mathlib.Omega.{arith}
-use borrow.Author.Count.{below_more}
-use borrow.Author.Tests.{not-true, not-false}
 use Rattle.base.specs.Rows.{row}
 use Rattle.cycle.specs.Cycle.{is_major}
-use Rattle.cycle.proofs.Frames.{of_row, is_kth, other_length, one-other, every-major}
 use Rattle.cycle.proofs.is_cycle.Given as goal
 
 abbrev pub invariant-loop-kind : goal.invariant-loop-kind

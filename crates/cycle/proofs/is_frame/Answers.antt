@@ -1,5 +1,4 @@
 -- `cycle::is_frame` meets its contract: the length first, then the frame. Assumes nothing.
-use mathlib.Core.Path.{sym, ◌∙◌}
 use borrow.Author.Tests.{ne_eqb, eq-eqb}
 use Rattle.cycle.specs.Cycle.{is_frame}
 use Rattle.cycle.proofs.is_frame.Goals as goal

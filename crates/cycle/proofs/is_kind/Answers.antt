@@ -6,21 +6,16 @@ use lib.ListN.{replicate, length-replicate}
 use Rattle.cycle.specs.Cycle.{answers_kind, is_kind}
 use Rattle.cycle.proofs.Frames.{gathers, kind_is}
 use Rattle.cycle.proofs.is_kind.Goals as goal
-use Rattle.cycle.proofs.is_kind.Goals.{After-kind, Start}
-
-abbrev start : After-kind → Start
-start k = (gathering k).before.before.before
+use Rattle.cycle.proofs.is_kind.Goals.{After-kind}
 
 -- whatever the kind test answers
-answered : (k : After-kind)
-    → answers_kind (start k).args.kind k.kind.result ≡ is_kind (start k).args.year (start k).args.kind (start k).args.frame.now
-answered k =
-    let s = start k in
-    let gathered = k.gather.ensures.after ∙ gathers s.args.frame.now (replicate 128 0) s.pre (length-replicate {A = ℕ} 128 0) in
-    kind_is _ _ _ _ _ gathered k.kind.ensures.answer
+answered : (c : After-kind) → answers_kind c.args.kind c.kind.result ≡ is_kind c.args.year c.args.kind c.args.frame.now
+answered c =
+    let gathered = c.gather.ensures.after ∙ gathers c.args.frame.now (replicate 128 0) c.requires (length-replicate {A = ℕ} 128 0) in
+    kind_is _ _ _ _ _ gathered c.kind.ensures.answer
 
 pub returns-in-Kind : goal.returns-in-Kind
-returns-in-Kind c = ap (answers_kind _) (sym c.found-1.given.1) ∙ answered (goal.at.returns-in-Kind c).After-kind
+returns-in-Kind c = ap (answers_kind _) (sym c.in-Kind.is) ∙ answered (goal.at.returns-in-Kind c).After-kind
 
 pub returns-in-Refused : goal.returns-in-Refused
-returns-in-Refused c = ap (answers_kind _) (sym c.enum_told-1.given.1) ∙ answered (goal.at.returns-in-Refused c).After-kind
+returns-in-Refused c = ap (answers_kind _) (sym c.in-Refused.is) ∙ answered (goal.at.returns-in-Refused c).After-kind

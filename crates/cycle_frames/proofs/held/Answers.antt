@@ -1,5 +1,5 @@
 -- `cycle_frames::held` meets its contract: each number of bits is tested in turn. Assumes nothing.
-use borrow.Author.Tests.{eq-eqb, ne_eqb}
+use borrow.Author.Tests.{ne_eqb}
 use Rattle.cycle_frames.specs.Gathering.{held_in}
 use Rattle.cycle_frames.proofs.held.Goals as goal
 

@@ -1,6 +1,5 @@
 -- `cycle_frames::keep` meets its contract: the frame goes into the slot behind those that are held. Assumes nothing.
 use mathlib.Core.Path.{◌≡◌, ap, ◌∙◌}
-use mathlib.Core.List.{List}
 use Prim.Native.Nat.{ℕ, ◌+◌, ◌^◌}
 use native.Mathlib.Omega.{arith}
 use Rattle.frame_store.specs.declared.Stored.{Stored}
@@ -21,7 +20,7 @@ bits_are : (s : After-store-stored) → let n = held_in s.args.bits in s.store-s
 bits_are s =
     let n = held_in s.args.bits in
     let p = placed s in
-    ap (λ (r : Stored). r.bits) (s.store-stored.ensures.answer ∙ p.answer) ∙ ap (λ (b : ℕ). b + 2 ^ n) p.is-bits
+    ap (λ (r : Stored). r.bits) (s.store-stored.ensures.answer ∙ p.answer) ∙ ap (λ (b : ℕ). b + 2 ^ n) p.is_bits
 
 pub returns-then-stored-eq-ALL_SLOTS : goal.returns-then-stored-eq-ALL_SLOTS
 returns-then-stored-eq-ALL_SLOTS c =

@@ -15,9 +15,8 @@ use Rattle.cycle_frames.proofs.next.Goals.{Else-held-ge-FRAMES}
 -- the lengths are right, and fewer than four frames are held
 ready : (e : Else-held-ge-FRAMES) → let a = e.args in Accepted a.area.now a.bits a.frame.now
 ready e =
-    let h = counting e in
-    let a = (begin h).args in
-    accepted-where a.area.now a.bits a.frame.now h.before.before.if1.left h.before.if2.left (few e.if-held-ge-FRAMES.false h.held.ensures)
+    let a = e.args in
+    accepted-where a.area.now a.bits a.frame.now e.if-area-ne-CYCLE.false e.if-frame-ne-MAJOR_FRAME.false (few e.if-held-ge-FRAMES.false e.held-held.ensures)
   where
     few : {r n : ℕ} → r < 4 → r ≡ n → n < 4
     few l e = omega arith
@@ -75,8 +74,8 @@ returns-then-is_frame-2 c =
     let slot = ap (λ (m : ℕ). with_frame m a.frame.now a.area.now) held_none in
     promised a.year a.area.now a.bits a.frame.now _ _ (c.keep-then-is_frame-2.ensures.0 ∙ first (goal.at.returns-then-is_frame-2 c).Else-held-ge-FRAMES ∙ sym n) (c.keep-then-is_frame-2.ensures.1 ∙ slot ∙ sym l)
   where
-    first : ((goal.at.returns-then-is_frame-2 c).Else-held-ge-FRAMES : tie.Else3) → kept_as (held_in 0) c.held-held.result ≡ kept_as 0 (held_in c.args.bits)
-    first (goal.at.returns-then-is_frame-2 c).Else-held-ge-FRAMES = ap (λ (n : ℕ). kept_as n c.held-held.result) held_none ∙ ap (kept_as 0) c.held-held.ensures
+    first : (e : Else-held-ge-FRAMES) → kept_as (held_in 0) e.held-held.result ≡ kept_as 0 (held_in e.args.bits)
+    first e = ap (λ (n : ℕ). kept_as n e.held-held.result) held_none ∙ ap (kept_as 0) e.held-held.ensures
 
 pub returns : goal.returns
 returns c =

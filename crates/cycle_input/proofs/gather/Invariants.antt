@@ -9,7 +9,7 @@ use Rattle.cycle_input.proofs.Laws.{Going, not_whole, went_on, came_whole}
 use Rattle.cycle_input.proofs.gather.Given as goal
 
 abbrev pub invariant-loop-frames : goal.invariant-loop-frames
-invariant-loop-frames l = Going l.year l.bits l.area × (length l.area ≡ length l.initial.area) × (length l.frame ≡ length l.initial.frame) × (l.before ≤ l.frames)
+invariant-loop-frames g l = Going l.year l.bits l.area × (length l.area ≡ length l.initial.area) × (length l.frame ≡ length l.initial.frame) × (l.before ≤ l.frames)
 
 abbrev pub decreases-loop-frames : goal.decreases-loop-frames
-decreases-loop-frames l = 2 ^ 64 - l.frames
+decreases-loop-frames g l = 2 ^ 64 - l.frames

@@ -1,7 +1,6 @@
 -- `cycle_records::cycle_refusal` meets its contract: each test is a line of the table. Assumes nothing.
 use mathlib.Core.Path.{sym, ◌∙◌}
 use native.Mathlib.Omega.{arith}
-use borrow.Author.Tests.{not-true, not-false}
 use Rattle.cycle_records.proofs.Known.{wrong-length, out-of_span, no_frame, no_cycle, a_cycle}
 use Rattle.cycle_records.proofs.cycle_refusal.Goals as goal
 

@@ -25,19 +25,19 @@ slice_bounds-expand-end c = sym (length-take-le (20 + c.args.k) zeros (room (goa
 
 pub slice_bounds-space-end-2 : goal.slice_bounds-space-end-2
 slice_bounds-space-end-2 c =
-    fits-array zeros c.expand.new.0 (20 + c.args.k) (number (goal.at.slice_bounds-space-end-2 c).Start) (room (goal.at.slice_bounds-space-end-2 c).Start) c.expand.ensures
+    fits-array zeros c.expand.new.digits (20 + c.args.k) (number (goal.at.slice_bounds-space-end-2 c).Start) (room (goal.at.slice_bounds-space-end-2 c).Start) c.expand.ensures
 
 pub slice_bounds-put_pointed-end : goal.slice_bounds-put_pointed-end
 slice_bounds-put_pointed-end c =
-    front_length zeros c.expand.new.0 (20 + c.args.k) (number (goal.at.slice_bounds-put_pointed-end c).Start) (room (goal.at.slice_bounds-put_pointed-end c).Start) c.expand.ensures
+    front_length zeros c.expand.new.digits (20 + c.args.k) (number (goal.at.slice_bounds-put_pointed-end c).Start) (room (goal.at.slice_bounds-put_pointed-end c).Start) c.expand.ensures
 
 pub put_pointed-requires : goal.put_pointed-requires
 put_pointed-requires c =
-    let size = front_length zeros c.expand.new.0 (20 + c.args.k) (number (goal.at.put_pointed-requires c).Start) (room (goal.at.put_pointed-requires c).Start) c.expand.ensures in
+    let size = front_length zeros c.expand.new.digits (20 + c.args.k) (number (goal.at.put_pointed-requires c).Start) (room (goal.at.put_pointed-requires c).Start) c.expand.ensures in
     rw (sym size) c.requires.2
 
 pub returns : goal.returns
 unfolding product
 returns c =
-    let front = is_front zeros c.expand.new.0 (20 + c.args.k) (number (goal.at.returns c).Start) (room (goal.at.returns c).Start) c.expand.ensures in
+    let front = is_front zeros c.expand.new.digits (20 + c.args.k) (number (goal.at.returns c).Start) (room (goal.at.returns c).Start) c.expand.ensures in
     rw (sym front) c.put_pointed.ensures

@@ -5,4 +5,4 @@ use borrow.Author.Tests.{le-ltb}
 use Rattle.double_vectors.proofs.show.Goals as goal
 
 pub float_from_bits-bits : goal.float_from_bits-bits
-float_from_bits-bits c = rw (nan_bits_above binary64 c.args.bits, le-ltb _ _ c.if-bits-gt-INFINITY.false) tt
+float_from_bits-bits g c = rw (nan_bits_above binary64 c.args.bits, le-ltb _ _ c.if-bits-gt-INFINITY.false) tt

@@ -1,8 +1,7 @@
 use mathlib.Core.Path.{◌≡◌, ◌∙◌, refl}
-use Prim.Native.Nat.{◌-◌}
 use native.Mathlib.Omega.{arith}
 use lib.ListN.{length}
-use Rattle.feeding.proofs.Reading.{Reading, begins, goes_on, further, ends, stops}
+use Rattle.feeding.proofs.Reading.{begins, goes_on, further, ends, stops}
 use Rattle.feeding.proofs.feed.Goals as goal
 use Rattle.feeding.proofs.feed.Goals.{After-next-f}
 
@@ -14,8 +13,8 @@ next-f-requires c = let i = c.loop-f.invariant.0 in (i.within, i.few)
 
 -- after a call
 module _ (w : After-next-f) where
-  kept : length w.next-f.last.1.1.0 ≡ length w.loop-f.area
-  kept = w.next-f.kept.1.1.0
+  kept : length w.next-f.new.area ≡ length w.loop-f.area
+  kept = w.next-f.auto.area
 
 pub shape_of-area-then-f-ne0 : goal.shape_of-area-then-f-ne0
 shape_of-area-then-f-ne0 c = kept (goal.at.shape_of-area-then-f-ne0 c).After-next-f ∙ c.loop-f.invariant.1

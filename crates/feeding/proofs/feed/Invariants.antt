@@ -1,9 +1,8 @@
 -- `feeding::feed` meets its contract: the stream is read as far as the place reached, and the next call goes on there. Assumes nothing.
-use mathlib.Core.Path.{◌≡◌, ◌∙◌, refl}
+use mathlib.Core.Path.{◌≡◌}
 use Prim.Native.Nat.{◌-◌}
-use native.Mathlib.Omega.{arith}
 use lib.ListN.{length}
-use Rattle.feeding.proofs.Reading.{Reading, begins, goes_on, further, ends, stops}
+use Rattle.feeding.proofs.Reading.{Reading}
 use Rattle.feeding.proofs.feed.Given as goal
 
 abbrev pub invariant-loop-f : goal.invariant-loop-f

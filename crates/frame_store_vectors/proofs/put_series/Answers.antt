@@ -4,14 +4,8 @@ use Rattle.frame_store_vectors.proofs.put_series.Goals as goal
 pub loop-i-init : goal.loop-i-init
 loop-i-init c = omega arith
 
-pub wrapping_add_u64-x-requires : goal.wrapping_add_u64-x-requires
-wrapping_add_u64-x-requires c = tt
-
 pub loop-i-smaller : goal.loop-i-smaller
 loop-i-smaller c = simp length-set (omega arith)
 
 pub loop-i-preserved : goal.loop-i-preserved
 loop-i-preserved c = simp length-set (omega arith)
-
-pub returns : goal.returns
-returns c = tt

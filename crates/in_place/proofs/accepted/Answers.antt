@@ -1,6 +1,5 @@
 -- `in_place::accepted` meets its contract: the layers, taken out, led in or not, and put back, are those that the run leaves, with its payment booked.
 -- Assumes nothing.
-use mathlib.Core.Bool.{true}
 use mathlib.Core.Path.{◌≡◌, refl, sym, ap, subst, ◌∙◌}
 use Prim.Native.Nat.{◌<◌}
 use native.Mathlib.Omega.{arith}
@@ -16,7 +15,7 @@ use Rattle.plain_steps.specs.Shapes.{state_with}
 use Rattle.reader.specs.Shapes.{call_of, part_of}
 use Rattle.reader_run.specs.Onward.{Begun, fed, ran_of}
 use Rattle.reader.proofs.Answers.{part-fits}
-use Rattle.tally_numbers.specs.Numbers.{tally_of, numbers_of, Sized}
+use Rattle.tally_numbers.specs.Numbers.{numbers_of, Sized}
 use Rattle.in_place.specs.Places.{call_in}
 use Rattle.in_place.specs.Leading.{after_lead, begun_with}
 use Rattle.in_place.proofs.Laws.{eight_booked}
@@ -30,80 +29,83 @@ module _ (made : After-layers_of-layers) where
   abbrev asked : TakeCall
   asked = call_in made.args.numbers.now made.args.frame.now made.args.piece.now made.args.area.now
 
-  -- the call begins after the lead-in or not
-
-  begun : Begins made.args.led asked
-  begun = begins made.args.led _ _ _ _ made.requires
-
 pub begin-begun-requires : goal.begin-begun-requires
 begin-begun-requires c =
-    let s = start (goal.at.begin-begun-requires c).After-layers_of-layers in
     let t = (asked (goal.at.begin-begun-requires c).After-layers_of-layers).tally in
-    let room = state_room (state_of t) (state_in_order_lem t s.pre.order) in
-    rw c.layers_of-layers.ensures ((s.pre.frame-length, room.in_groups), λ z. (s.pre.leads z).at_first)
+    let room = state_room (state_of t) (state_in_order_lem t c.requires.order) in
+    rw c.layers_of-layers.ensures record {
+      frame_len = (c.requires.frame-length, room.in_groups);
+      placed_value = λ z. (c.requires.leads z).at_first;
+    }
 
 -- where the run begins
 module _ (ready : After-begin-begun) where
-  abbrev first : Tally
-  first = begun_tally ready.args.led (asked ready.before.before).tally
+  abbrev whole : TakeCall
+  whole = call_in ready.args.numbers.now ready.args.frame.now ready.args.piece.now ready.args.area.now
 
-  state_is : state_with ready.begin-begun.result ready.begin-begun.last.1.1.0 ≡ state_of first
+  -- the call begins after the lead-in or not
+  begun : Begins ready.args.led whole
+  begun = begins ready.args.led _ _ _ _ ready.requires
+
+  abbrev first : Tally
+  first = begun_tally ready.args.led whole.tally
+
+  state_is : state_with ready.begin-begun.result ready.begin-begun.new.frame ≡ state_of first
   state_is =
       let a = ready.args in
       ready.begin-begun.ensures ∙ ap (λ (l : Layers). begun_with a.led (state_with l a.frame.now)) ready.layers_of-layers.ensures
 
 pub run-r-requires : goal.run-r-requires
 run-r-requires c =
-    let made = taken_out (goal.at.run-r-requires c).After-begin-begun in
-    let s = start made in
-    let b = begun made in (
-      subst (λ (t : State). Begun s.args.piece.now 0 t) (sym (state_is (goal.at.run-r-requires c).After-begin-begun))
+    let ready = (goal.at.run-r-requires c).After-begin-begun in
+    let b = begun ready in (
+      subst (λ (t : State). Begun c.args.piece.now 0 t) (sym (state_is ready))
           record {
-            order = state_in_order_lem (first (goal.at.run-r-requires c).After-begin-begun) b.order;
+            order = state_in_order_lem (first ready) b.order;
             fits = record { inside = omega arith; limit = omega (arith, b.fits) };
-            frame-length = b.frame-length ∙ s.pre.frame-length;
+            frame-length = b.frame-length ∙ c.requires.frame-length;
           },
-      s.pre.area_length,
+      c.requires.area_length,
     )
 
 pub put_layers-requires : goal.put_layers-requires
-put_layers-requires c =
-    let made = taken_out (goal.at.put_layers-requires c).After-begin-begun in
-    duty_room (asked made).tally (start made).pre.order
+put_layers-requires c = duty_room (asked (goal.at.put_layers-requires c).After-layers_of-layers).tally c.requires.order
 
 -- where the run ends
 module _ (ran : After-run-r) where
   abbrev call : TakeCall
-  call = asked ran.before.before.before.before.before
+  call = call_in ran.args.numbers.now ran.args.frame.now ran.args.piece.now ran.args.area.now
 
   abbrev part : TakeCall
   part = part_of ran.args.stop (after_lead ran.args.led call)
 
   abbrev told : Answer
-  told = answer_with call.tally (ran_of ran.run-r.result ran.run-r.last.1.1.1.1.0 ran.run-r.last.1.1.1.1.1.0)
+  told = answer_with call.tally (ran_of ran.run-r.result ran.run-r.new.frame ran.run-r.new.area)
 
-  same : told ≡ answer part
-  same =
+  same : (begun_at : Begins ran.args.led call)
+      → state_with ran.begin-begun.result ran.begin-begun.new.frame ≡ state_of (begun_tally ran.args.led call.tally) → told ≡ answer part
+  same b so =
       let a = ran.args in
-      let b = begun ran.before.before.before.before.before in
-      let d = part_of a.stop (call_of (first ran.before.before.before) call.piece call.area) in
-      let fits = part-fits a.stop (first ran.before.before.before) call.piece call.area b.order ran.requires.area_length b.fits in
+      let f = begun_tally a.led call.tally in
+      let d = part_of a.stop (call_of f call.piece call.area) in
+      let fits = part-fits a.stop f call.piece call.area b.order ran.requires.area_length b.fits in
       let read : State → Progress = λ x.
       fed (rule_vote call.tally.rule) a.stop call.piece (record { at = 0; state = x; area = call.area }) in
-      ap (λ (r : Progress). answer_with call.tally r) (ran.run-r.ensures ∙ ap read (state_is ran.before.before.before))
+      ap (λ (r : Progress). answer_with call.tally r) (ran.run-r.ensures ∙ ap read so)
       ∙ sym (accepted-answer d fits) ∙ ap (λ (x : TakeCall). answer (part_of a.stop x)) (sym b.call-is)
 
   sized : Sized told.tally
   sized =
       let g = ran.run-r.result.layers.groups in
-      let counts = ran.run-r.ok.1.1.0.1.1.0 in
-      let first : g.first < 256 = (let copies = counts.1.1.1.1.1.1.1.1.1 in search rules) in
-      let second : g.second < 256 = (let copies = counts.1.1.1.1.1.1.1.1.1 in search rules) in
+      let first : g.first < 256 = search rules in
+      let second : g.second < 256 = search rules in
       record { first_byte = first; second-byte = second; eight = eight_booked ran.args.numbers.now ran.run-r.result.complete }
 
 pub returns : goal.returns
 returns c =
-    let so = same (goal.at.returns c).After-run-r in (
+    let ready = (goal.at.returns c).After-begin-begun in
+    let ran = (goal.at.returns c).After-run-r in
+    let so = same ran (begun ready) (state_is ready) in (
       refl,
       record {
         numbers_is = c.put_layers.ensures ∙ ap (λ (x : Answer). numbers_of x.tally) so;
@@ -111,6 +113,6 @@ returns c =
         area_is = ap (λ (x : Answer). x.area) so;
         taken_is = ap (λ (x : Answer). x.taken) so;
         complete_is = ap (λ (x : Answer). x.complete) so;
-        sized = subst (λ (x : Answer). Sized x.tally) so (sized (goal.at.returns c).After-run-r);
+        sized = subst (λ (x : Answer). Sized x.tally) so (sized ran);
       },
     )

@@ -1,5 +1,4 @@
 -- `in_place::begin` meets its contract: the lead-in is placed, or nothing is done. Assumes nothing.
-use mathlib.Core.Path.{◌≡◌, sym, ◌∙◌}
 use Rattle.in_place.proofs.begin.Goals as goal
 
 pub lead_in-requires : goal.lead_in-requires

@@ -1,10 +1,9 @@
 -- `in_place::call` meets its contract: its tests are the refusal table's, in the table's order. Assumes nothing.
 use mathlib.Core.Path.{◌≡◌, sym, ◌∙◌}
-use mathlib.Core.Bool.{true, false, ◌&&◌}
+use mathlib.Core.Bool.{true}
 use Prim.Native.Nat.{◌+◌, ◌≤◌, ◌<◌, ◌^◌}
 use native.Mathlib.Omega.{arith}
 use lib.ListN.{length, get_or}
-use borrow.Author.Tests.{not-true, not-false}
 use Rattle.labelling.specs.declared.Tally.{Tally}
 use Rattle.labelling.specs.Order.{in_order}
 use Rattle.labelling.proofs.Ordered.{bytes_within}
@@ -19,13 +18,14 @@ module _ (c : After-in_order) where
   abbrev tally : Tally
   tally = tally_of c.args.numbers.now c.args.frame.now
 
-in_order-so : (c : Else-not-in_order) → (is_tally c.args.numbers.now ≡ true) × (in_order (tally c.before) ≡ true)
-in_order-so c = both _ _ (sym c.in_order.ensures.value ∙ not-false _ c.if-not-in_order.false)
+in_order-so : (c : Else-not-in_order)
+    → (is_tally c.args.numbers.now ≡ true) × (in_order (tally_of c.args.numbers.now c.args.frame.now) ≡ true)
+in_order-so c = both _ _ (sym c.in_order.ensures.value ∙ c.if-not-in_order.false)
 
 pub returns-then-not-in_order : goal.returns-then-not-in_order
 returns-then-not-in_order c =
     let a = c.args in
-    let out = sym c.in_order.ensures.value ∙ not-true _ c.if-not-in_order.true in
+    let out = sym c.in_order.ensures.value ∙ c.if-not-in_order.true in
     rw c.refused.ensures (not_ordered _ _ _ _ _ out (not_in_order (tally (goal.at.returns-then-not-in_order c).After-in_order) a.piece.now a.area.now))
 
 pub returns-then-area-ne-MAJOR_FRAME : goal.returns-then-area-ne-MAJOR_FRAME
@@ -48,7 +48,7 @@ returns-then-numbers-piece c =
 pub accepted-requires : goal.accepted-requires
 accepted-requires c =
     let o = in_order-so (goal.at.accepted-requires c).Else-not-in_order in
-    let is-ordered = c.in_order.ensures.frame_len (not-false _ c.if-not-in_order.false) in
+    let is-ordered = c.in_order.ensures.frame_len c.if-not-in_order.false in
     let few_bytes = bytes_within (tally (goal.at.accepted-requires c).After-in_order) o.1 in
     record {
       is_tally_fact = o.0;

@@ -1,18 +1,14 @@
 -- `in_place::call_to_lock` meets its contract: the second layer, before and after the call, tells the lock. Assumes nothing.
-use mathlib.Core.Path.{◌≡◌, ap, ◌∙◌}
+use mathlib.Core.Path.{ap, ◌∙◌}
 use Rattle.labelling.specs.declared.Framing.{Framing}
 use Rattle.reader.specs.Shapes.{locked_by}
 use Rattle.tally_numbers.specs.Numbers.{framing_of}
 use Rattle.in_place.proofs.Laws.{lock_told}
 use Rattle.in_place.proofs.LeadIn.{next-call}
 use Rattle.in_place.proofs.call_to_lock.Goals as goal
-use Rattle.in_place.proofs.call_to_lock.Goals.{After-framing_of-after}
 
 pub call-part-requires : goal.call-part-requires
-call-part-requires c = read.before.before.before.before.requires
-
--- where the second layer is read again
-module _ (reread : After-framing_of-after) where
+call-part-requires c = c.requires
 
 pub returns : goal.returns
 returns c =

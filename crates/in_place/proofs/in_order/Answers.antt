@@ -2,4 +2,4 @@
 use Rattle.in_place.proofs.in_order.Goals as goal
 
 pub returns : goal.returns
-returns c = (c.in_order.ensures c.args.frame.now, λ z. c.whole.ensures)
+returns c = record { value = c.in_order.ensures c.args.frame.now; frame_len = λ z. c.whole.ensures }

@@ -1,14 +1,12 @@
 -- `in_place::lead_and_take` meets its contract: it is the call as far as a lock, after the lead-in, where that has room. Assumes nothing.
 use mathlib.Core.Path.{◌≡◌, refl}
 use mathlib.Core.Bool.{true}
-use borrow.Author.Tests.{not-true, not-false}
-use Rattle.in_place.specs.Leading.{LeadPromise}
 use Rattle.in_place.proofs.lead_and_take.Goals as goal
 use Rattle.in_place.proofs.lead_and_take.Goals.{Else-not-lead_fits}
 
 pub returns-then-not-lead_fits : goal.returns-then-not-lead_fits
 returns-then-not-lead_fits c =
-    let never = c.lead_fits.ensures.1 (not-true _ c.if-not-lead_fits.true) in
+    let never = c.lead_fits.ensures.1 c.if-not-lead_fits.true in
     record {
       fits = λ f. absurd (never f);
       misses = λ h. (c.refused-part.ensures, record { numbers_kept = refl; frame_kept = refl; area_kept = refl });
@@ -17,7 +15,7 @@ returns-then-not-lead_fits c =
 -- where the test has passed
 module _ (fit : Else-not-lead_fits) where
   leads : fit.lead_fits.result ≡ true
-  leads = not-false _ fit.if-not-lead_fits.false
+  leads = fit.if-not-lead_fits.false
 
 pub call_to_lock-requires : goal.call_to_lock-requires
 call_to_lock-requires c = λ z. c.lead_fits.ensures.0 (leads (goal.at.call_to_lock-requires c).Else-not-lead_fits)

@@ -10,26 +10,22 @@ use Rattle.in_place.proofs.put_layers.Goals as goal
 use Rattle.in_place.proofs.put_layers.Goals.{After-put_counts}
 
 module _ (c : After-put_counts) where
-  -- the operators are read, before the layers are taken apart
   -- what is put back before the payment
-
-  put_back : c.put_counts.new.1.1.1.1.1.0 ≡ with_layers c.args.n.now c.args.l (operators_of c.args.n.now)
+  put_back : c.put_counts.new.n ≡ with_layers c.args.n.now c.args.l (operators_of c.args.n.now)
   put_back =
       c.put_counts.ensures ∙ ap (with_layers c.args.n.now c.args.l) c.operators_of-operators.ensures
 
 pub overflow_add-n : goal.overflow_add-n
 overflow_add-n c =
-    let s = start (goal.at.overflow_add-n c).After-put_counts in
-    let place = 23 + get_or s.args.n.now 31 0 in
-    omega (arith, ap (λ (m : List ℕ). get_or m place 0) (put_back (goal.at.overflow_add-n c).After-put_counts), paid-within s.args.n.now s.pre s.args.l)
+    let place = 23 + get_or c.args.n.now 31 0 in
+    omega (arith, ap (λ (m : List ℕ). get_or m place 0) (put_back (goal.at.overflow_add-n c).After-put_counts), paid-within c.args.n.now c.requires c.args.l)
 
 pub returns-then-complete : goal.returns-then-complete
 returns-then-complete c =
-    let s = start (goal.at.returns-then-complete c).After-put_counts in
-    let place = 23 + get_or s.args.n.now 31 0 in
+    let place = 23 + get_or c.args.n.now 31 0 in
     rw c.if-complete.true
-    (ap (λ (m : List ℕ). set m place (get_or m place 0 + 1)) (put_back (goal.at.returns-then-complete c).After-put_counts) ∙ payment s.args.n.now s.pre s.args.l)
+    (ap (λ (m : List ℕ). set m place (get_or m place 0 + 1)) (put_back (goal.at.returns-then-complete c).After-put_counts) ∙ payment c.args.n.now c.requires c.args.l)
 
 pub returns-else-complete : goal.returns-else-complete
 returns-else-complete c =
-    let s = start (goal.at.returns-else-complete c).After-put_counts in rw c.if-complete.false (put_back (goal.at.returns-else-complete c).After-put_counts ∙ no_payment s.args.n.now s.pre s.args.l)
+    rw c.if-complete.false (put_back (goal.at.returns-else-complete c).After-put_counts ∙ no_payment c.args.n.now c.requires c.args.l)

@@ -13,9 +13,9 @@ six s = simp (length-take, length-drop) (omega (arith, s.requires))
 
 pub returns-in-Number : goal.returns-in-Number
 returns-in-Number c =
-    clock_read c.args.column.now (six (goal.at.returns-in-Number c).Start) _ _ _ _ _ c.decode.ensures c.updated-1.given.1 c.count16.ensures
+    clock_read c.args.column.now (six (goal.at.returns-in-Number c).Start) _ _ _ _ _ c.decode.ensures c.in-Number.is c.count16.ensures
     c.count16-in-Number.ensures c.count16-in-Number-2.ensures
 
 pub returns-in-Refused : goal.returns-in-Refused
 returns-in-Refused c =
-    clock_unread c.args.column.now (six (goal.at.returns-in-Refused c).Start) _ _ _ c.decode.ensures c.number-1.given.1 c.none.ensures
+    clock_unread c.args.column.now (six (goal.at.returns-in-Refused c).Start) _ _ _ c.decode.ensures c.in-Refused.is c.none.ensures

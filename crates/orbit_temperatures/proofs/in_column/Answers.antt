@@ -1,5 +1,4 @@
 -- `orbit_temperatures::in_column` meets its contract. Assumes nothing.
-use borrow.Author.Tests.{not-true, not-false}
 use Rattle.orbit_temperatures.proofs.Columns.{temperatures_clear, temperatures_unclear}
 use Rattle.orbit_temperatures.proofs.in_column.Goals as goal
 

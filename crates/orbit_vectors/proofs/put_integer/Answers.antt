@@ -11,9 +11,9 @@ abbrev read : Start → ℤ
 read s = to_z w64 (of_z w64 s.args.x)
 
 pub overflow_add-x : goal.overflow_add-x
-overflow_add-x c =
-    sum_fits (read (goal.at.overflow_add-x c).Else-x-ltminus2147483648) (raised (read (goal.at.overflow_add-x c).Else-x-ltminus2147483648) c.if-x-ltminus2147483648.false c.if-x-gt2147483647.false)
+overflow_add-x g c =
+    sum_fits (read (goal.at.overflow_add-x g c).Else-x-ltminus2147483648) (raised (read (goal.at.overflow_add-x g c).Else-x-ltminus2147483648) c.if-x-ltminus2147483648.false c.if-x-gt2147483647.false)
 
 pub overflow_cast-x : goal.overflow_cast-x
-overflow_cast-x c =
-    sum-casts (read (goal.at.overflow_cast-x c).Else-x-ltminus2147483648) (raised (read (goal.at.overflow_cast-x c).Else-x-ltminus2147483648) c.if-x-ltminus2147483648.false c.if-x-gt2147483647.false)
+overflow_cast-x g c =
+    sum-casts (read (goal.at.overflow_cast-x g c).Else-x-ltminus2147483648) (raised (read (goal.at.overflow_cast-x g c).Else-x-ltminus2147483648) c.if-x-ltminus2147483648.false c.if-x-gt2147483647.false)

@@ -3,7 +3,7 @@ use Rattle.pcd_book.proofs.Binding.{bound_front}
 use Rattle.pcd_book.proofs.gather_large.Goals as goal
 
 pub write_large-requires : goal.write_large-requires
-write_large-requires c =
+write_large-requires g c =
     let asked = c.year_at-year in
     let g = c.gather-shelf in
     let span = asked.ensures.in_span_fact c.if-year-eq0.false in

@@ -3,7 +3,7 @@ use Rattle.pcd_book.proofs.Binding.{bound_front}
 use Rattle.pcd_book.proofs.gather_small.Goals as goal
 
 pub write_small-requires : goal.write_small-requires
-write_small-requires c =
+write_small-requires g c =
     let asked = c.year_at-year in
     let g = c.gather-shelf in
     let span = asked.ensures.in_span_fact c.if-year-eq0.false in

@@ -6,7 +6,7 @@ use Rattle.pcd_book.proofs.Laws.{large_room}
 use Rattle.pcd_book.proofs.in_large_rooms.Goals as goal
 
 pub slice_bounds-bodies-end : goal.slice_bounds-bodies-end
-slice_bounds-bodies-end c = sym (length-replicate {A = ℕ} 16777216 0)
+slice_bounds-bodies-end g c = sym (length-replicate {A = ℕ} 16777216 0)
 
 pub gather_large-requires : goal.gather_large-requires
-gather_large-requires c = large_room (length-replicate {A = ℕ} 16777216 0)
+gather_large-requires g c = large_room (length-replicate {A = ℕ} 16777216 0)

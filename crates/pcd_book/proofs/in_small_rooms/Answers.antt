@@ -6,7 +6,7 @@ use Rattle.pcd_book.proofs.Laws.{small-room}
 use Rattle.pcd_book.proofs.in_small_rooms.Goals as goal
 
 pub slice_bounds-bodies-end : goal.slice_bounds-bodies-end
-slice_bounds-bodies-end c = sym (length-replicate {A = ℕ} 2162688 0)
+slice_bounds-bodies-end g c = sym (length-replicate {A = ℕ} 2162688 0)
 
 pub gather_small-requires : goal.gather_small-requires
-gather_small-requires c = small-room (length-replicate {A = ℕ} 2162688 0)
+gather_small-requires g c = small-room (length-replicate {A = ℕ} 2162688 0)

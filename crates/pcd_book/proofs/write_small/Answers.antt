@@ -5,4 +5,4 @@ use lib.ListN.{length-replicate}
 use Rattle.pcd_book.proofs.write_small.Goals as goal
 
 pub slice_bounds-out-end : goal.slice_bounds-out-end
-slice_bounds-out-end c = sym (length-replicate {A = ℕ} 2097541 0)
+slice_bounds-out-end g c = sym (length-replicate {A = ℕ} 2097541 0)

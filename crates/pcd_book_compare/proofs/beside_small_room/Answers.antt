@@ -5,10 +5,4 @@ use lib.ListN.{length-replicate}
 use Rattle.pcd_book_compare.proofs.beside_small_room.Goals as goal
 
 pub slice_bounds-second-end : goal.slice_bounds-second-end
-slice_bounds-second-end c = sym (length-replicate {A = ℕ} 2097541 0)
-
-pub compare-requires : goal.compare-requires
-compare-requires c = tt
-
-pub returns : goal.returns
-returns c = tt
+slice_bounds-second-end g c = sym (length-replicate {A = ℕ} 2097541 0)

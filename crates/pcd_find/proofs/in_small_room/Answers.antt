@@ -5,4 +5,4 @@ use lib.ListN.{length-replicate}
 use Rattle.pcd_find.proofs.in_small_room.Goals as goal
 
 pub slice_bounds-room-end : goal.slice_bounds-room-end
-slice_bounds-room-end c = sym (length-replicate {A = ℕ} 2097541 0)
+slice_bounds-room-end g c = sym (length-replicate {A = ℕ} 2097541 0)

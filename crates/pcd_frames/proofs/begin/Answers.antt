@@ -4,4 +4,4 @@ use borrow.Author.Rules.{rules}
 use Rattle.pcd_frames.proofs.begin.Goals as goal
 
 pub returns : goal.returns
-returns c = search (rules, all-begun)
+returns g c = search (rules, all-begun)

@@ -5,31 +5,31 @@ use Rattle.pcd_frames.proofs.Laws.{settled, shifted, due, wrote}
 use Rattle.pcd_frames.proofs.done_with.Goals as goal
 
 pub returns-in-Onward : goal.returns-in-Onward
-returns-in-Onward c = settled _ _ _ c.requires _ (ap is_complete c.enum_told-1.given.1) (record { reel_is = refl; written_is = refl })
+returns-in-Onward g c = settled _ _ _ c.requires _ (ap is_complete c.enum_told-1.given.1) (record { reel_is = refl; written_is = refl })
 
 pub returns-in-Filled : goal.returns-in-Filled
-returns-in-Filled c =
+returns-in-Filled g c =
     settled _ _ _ c.requires _ (ap is_complete c.enum_told-in-Filled-1.given.1) c.told.ensures
 
 pub write_frame-requires : goal.write_frame-requires
-write_frame-requires c = due _ _ _ c.requires c.enum_told-in-Complete-1.given.1
+write_frame-requires g c = due _ _ _ c.requires c.enum_told-in-Complete-1.given.1
 
 pub returns-in-Complete : goal.returns-in-Complete
-returns-in-Complete c =
+returns-in-Complete g c =
     let written = c.write_frame.ensures in
     wrote _ _ _ c.requires _ written.0 written.1
 
 pub returns-in-Cut : goal.returns-in-Cut
-returns-in-Cut c =
+returns-in-Cut g c =
     shifted _ _ _ c.requires _ (ap is_complete c.enum_told-in-Cut-1.given.1) c.change_shift.ensures
 
 pub returns-in-Ended : goal.returns-in-Ended
-returns-in-Ended c =
+returns-in-Ended g c =
     settled _ _ _ c.requires _ (ap is_complete c.enum_told-in-Ended-1.given.1) c.ended.ensures
 
 pub returns-in-Unreadable : goal.returns-in-Unreadable
-returns-in-Unreadable c =
+returns-in-Unreadable g c =
     settled _ _ _ c.requires _ (ap is_complete c.enum_told-in-Unreadable-1.given.1) c.undone.ensures
 
 pub returns-in-Refused : goal.returns-in-Refused
-returns-in-Refused c = settled _ _ _ c.requires _ (ap is_complete c.event-1.given.1) c.refused.ensures
+returns-in-Refused g c = settled _ _ _ c.requires _ (ap is_complete c.event-1.given.1) c.refused.ensures

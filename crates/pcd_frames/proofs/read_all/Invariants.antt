@@ -5,7 +5,7 @@ use Rattle.pcd_frames.proofs.Laws.{all_read}
 use Rattle.pcd_frames.proofs.read_all.Given as goal
 
 abbrev pub invariant-loop-turns : goal.invariant-loop-turns
-invariant-loop-turns l = AllWritten l.s l.area
+invariant-loop-turns g l = AllWritten l.s l.area
 
 abbrev pub decreases-loop-turns : goal.decreases-loop-turns
-decreases-loop-turns l = l.turns
+decreases-loop-turns g l = l.turns

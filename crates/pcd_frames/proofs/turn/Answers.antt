@@ -4,4 +4,4 @@ use borrow.Author.Rules.{rules}
 use Rattle.pcd_frames.proofs.turn.Goals as goal
 
 pub done_with-requires : goal.done_with-requires
-done_with-requires c = search (rules, came)
+done_with-requires g c = search (rules, came)

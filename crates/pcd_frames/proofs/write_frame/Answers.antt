@@ -2,4 +2,4 @@
 use Rattle.pcd_frames.proofs.write_frame.Goals as goal
 
 pub returns : goal.returns
-returns c = c.wrote.ensures c.requires
+returns g c = c.wrote.ensures c.requires

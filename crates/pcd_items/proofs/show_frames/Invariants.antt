@@ -6,7 +6,7 @@ use lib.ListN.{length-replicate}
 use Rattle.pcd_items.proofs.show_frames.Given as goal
 
 abbrev pub invariant-loop-frame : goal.invariant-loop-frame
-invariant-loop-frame l = Unit {0}
+invariant-loop-frame g l = Unit {0}
 
 abbrev pub decreases-loop-frame : goal.decreases-loop-frame
-decreases-loop-frame l = 1152921504606846976 - l.frame
+decreases-loop-frame g l = 1152921504606846976 - l.frame

@@ -6,7 +6,7 @@ use lib.ListN.{length, length-replicate}
 use Rattle.pcd_map.proofs.read_all.Given as goal
 
 abbrev pub invariant-loop-turns : goal.invariant-loop-turns
-invariant-loop-turns l = length l.cells ≡ length l.initial.cells
+invariant-loop-turns g l = length l.cells ≡ length l.initial.cells
 
 abbrev pub decreases-loop-turns : goal.decreases-loop-turns
-decreases-loop-turns l = l.turns
+decreases-loop-turns g l = l.turns

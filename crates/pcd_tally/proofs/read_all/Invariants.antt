@@ -8,7 +8,7 @@ use Rattle.pcd_tally.proofs.Laws.{turned, nearer, all_read}
 use Rattle.pcd_tally.proofs.read_all.Given as goal
 
 abbrev pub invariant-loop-buffer : goal.invariant-loop-buffer
-invariant-loop-buffer l = ReadSoFar l.state.read l.state.tally l.area
+invariant-loop-buffer g l = ReadSoFar l.state.read l.state.tally l.area
 
 abbrev pub decreases-loop-buffer : goal.decreases-loop-buffer
-decreases-loop-buffer l = 2 ^ 40 - l.state.read
+decreases-loop-buffer g l = 2 ^ 40 - l.state.read

@@ -1,10 +1,9 @@
 -- `reader::take_part` meets its contract: its tests are the refusal table's, in the table's order. Assumes nothing.
 use native.Mathlib.Omega.{arith}
 use mathlib.Core.Path.{◌≡◌, sym, ◌∙◌}
-use mathlib.Core.Bool.{true, false, not}
+use mathlib.Core.Bool.{true, false}
 use Prim.Native.Nat.{◌+◌, ◌<◌, ◌^◌}
 use lib.ListN.{length}
-use borrow.Author.Tests.{not-true, not-false}
 use Rattle.labelling.specs.Order.{in_order}
 use Rattle.labelling.proofs.Ordered.{bytes_within}
 use Rattle.labelling.proofs.CallLaws.{not_in_order, wrong-area, too_long, no_refusal}
@@ -14,11 +13,11 @@ use Rattle.reader.proofs.take_part.Goals.{After-in_order}
 
 -- past the first test it is known whether the tally is in order
 module _ (c : After-in_order) where
-  in_order-so : not c.in_order.result ≡ false → in_order c.args.t ≡ true
-  in_order-so e = sym c.in_order.ensures ∙ not-false c.in_order.result e
+  in_order-so : c.in_order.result ≡ true → in_order c.args.t ≡ true
+  in_order-so e = sym c.in_order.ensures ∙ e
 
-  out-of_order_so : not c.in_order.result ≡ true → in_order c.args.t ≡ false
-  out-of_order_so e = sym c.in_order.ensures ∙ not-true c.in_order.result e
+  out-of_order_so : c.in_order.result ≡ false → in_order c.args.t ≡ false
+  out-of_order_so e = sym c.in_order.ensures ∙ e
 
 pub returns-then-not-in_order : goal.returns-then-not-in_order
 returns-then-not-in_order c =

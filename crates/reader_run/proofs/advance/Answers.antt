@@ -3,7 +3,6 @@ use native.Mathlib.Omega.{arith}
 use Rattle.labelling.proofs.Votes.{majority}
 use Rattle.reader_run.proofs.Onward.{onward-begun, onward-join}
 use Rattle.reader_run.proofs.advance.Goals as goal
-use Rattle.reader_run.proofs.advance.Goals.{After-reach-r}
 
 pub returns-then-piece-r : goal.returns-then-piece-r
 returns-then-piece-r c =
@@ -12,9 +11,9 @@ returns-then-piece-r c =
 
 pub one_byte-requires : goal.one_byte-requires
 one_byte-requires c =
-    let s = start (goal.at.one_byte-requires c).After-reach-r in
-    let r = c.reach-r.ensures.onward _ (majority s.args.rule) s.args.area.now in
-    (onward-begun r s.pre.0, c.if-piece-r.false, s.pre.2)
+    let a = c.args in
+    let r = c.reach-r.ensures.onward _ (majority a.rule) a.area.now in
+    (onward-begun r c.requires.0, c.if-piece-r.false, c.requires.2)
 
 pub returns : goal.returns
 returns c =

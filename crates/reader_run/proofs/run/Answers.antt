@@ -1,21 +1,9 @@
 use native.Mathlib.Omega.{arith}
-use mathlib.Core.Path.{◌≡◌, refl, sym, ◌∙◌}
-use mathlib.Core.Bool.{Bool}
-use mathlib.Core.List.{List}
-use Prim.Native.Nat.{ℕ, ◌-◌}
-use lib.ListN.{length}
-use Rattle.base.specs.Format.{major_frame}
-use Rattle.labelling.specs.Words.{Vote}
+use mathlib.Core.Path.{refl, sym, ◌∙◌}
 use Rattle.labelling.specs.Votes.{rule_vote}
-use Rattle.reader_run.specs.Onward.{Begun, Moment, from, rest_from}
+use Rattle.reader_run.specs.Onward.{from}
 use Rattle.reader_run.proofs.Onward.{call-begins, call_ends, onward-ends, onward-more, onward-begun}
 use Rattle.reader_run.proofs.run.Goals as goal
-
--- begun at m₀, the call has come to m
-record Running (vote : Vote) (stop : Bool) (piece : List ℕ) (m₀ m : Moment) : Type 0 where
-  so_far : rest_from vote stop piece m₀ ≡ rest_from vote stop piece m
-  begun : Begun piece m.at m.state
-  area_length : length m.area ≡ major_frame
 
 pub loop-i-init : goal.loop-i-init
 loop-i-init c = record { so_far = refl; begun = c.requires.0; area_length = c.requires.1 }
@@ -42,7 +30,7 @@ loop-i-preserved c =
     record {
       so_far = c.loop-i.invariant.so_far ∙ onward-more x.ensures.onward a.stop (sym c.stops.ensures ∙ c.if-stops.false);
       begun = onward-begun x.ensures.onward c.loop-i.invariant.begun;
-      area_length = x.auto.1.1.1.1.1.0 ∙ c.loop-i.invariant.area_length;
+      area_length = x.auto.area ∙ c.loop-i.invariant.area_length;
     }
 
 pub returns : goal.returns

@@ -7,7 +7,7 @@ use lib.ListN.{length}
 use Rattle.reader_vectors.proofs.read_stream.Given as goal
 
 abbrev pub invariant-loop-at : goal.invariant-loop-at
-invariant-loop-at l = length l.area ≡ 16384
+invariant-loop-at g l = length l.area ≡ 16384
 
 abbrev pub decreases-loop-at : goal.decreases-loop-at
-decreases-loop-at l = length l.stream - l.at
+decreases-loop-at g l = length l.stream - l.at

@@ -8,16 +8,16 @@ use Rattle.reel_reading.proofs.Laws.{keeps_advanced, cut_here, part_length}
 use Rattle.reel_reading.proofs.advance.Goals as goal
 
 pub returns-then-reel : goal.returns-then-reel
-returns-then-reel c = keeps_advanced _ _ _ c.more.ensures
+returns-then-reel g c = keeps_advanced _ _ _ c.more.ensures
 
 pub returns-then-end-at : goal.returns-then-end-at
-returns-then-end-at c = keeps_advanced _ _ _ c.more-then-end-at.ensures
+returns-then-end-at g c = keeps_advanced _ _ _ c.more-then-end-at.ensures
 
 pub returns-then-cut-reel : goal.returns-then-cut-reel
-returns-then-cut-reel c = cut_here _ _
+returns-then-cut-reel g c = cut_here _ _
 
 pub on_piece-requires : goal.on_piece-requires
-on_piece-requires c =
+on_piece-requires g c =
     let start = ended.before.before.before.before in
     let buffer = start.args.buffer.now in
     let at = start.args.reel.at in

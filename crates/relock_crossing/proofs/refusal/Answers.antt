@@ -4,10 +4,9 @@ use mathlib.Core.Bool.{true}
 use Prim.Native.Nat.{◌≤◌, ◌^◌}
 use native.Mathlib.Omega.{arith}
 use lib.ListN.{get_or}
-use borrow.Author.Tests.{not-true, not-false}
 use Rattle.labelling.proofs.Ordered.{bytes_within}
 use Rattle.relocking.specs.Relock.{feeder_in_order}
-use Rattle.relocking.proofs.Relocking.{in_order, wrong-area, too_long, accepted-by}
+use Rattle.relocking.proofs.Relocking.{feeder_ordered, wrong-area, too_long, accepted-by}
 use Rattle.in_place.proofs.Laws.{both}
 use Rattle.relock_crossing.specs.Relocking.{is_feeder, feeder_of}
 use Rattle.relock_crossing.proofs.Steps.{order_refused, line}
@@ -18,13 +17,13 @@ use Rattle.relock_crossing.proofs.refusal.Goals.{Else-not-in_order}
 module _ (c : Else-not-in_order) where
   order : (is_feeder c.args.n.now c.args.feeder.now ≡ true)
       × (feeder_in_order (feeder_of c.args.n.now c.args.frame.now c.args.feeder.now) ≡ true)
-  order = both _ _ (sym c.in_order.ensures ∙ not-false _ c.if-not-in_order.false)
+  order = both _ _ (sym c.in_order.ensures ∙ c.if-not-in_order.false)
 
   within : get_or c.args.n.now 0 0 ≤ 2 ^ 40
-  within = bytes_within _ (in_order _ order.1).in_tally
+  within = bytes_within _ (feeder_ordered _ order.1).in_tally
 
 pub returns-then-not-in_order : goal.returns-then-not-in_order
-returns-then-not-in_order c = sym (order_refused _ _ _ _ _ (sym c.in_order.ensures ∙ not-true _ c.if-not-in_order.true))
+returns-then-not-in_order c = sym (order_refused _ _ _ _ _ (sym c.in_order.ensures ∙ c.if-not-in_order.true))
 
 pub returns-then-area-ne-MAJOR_FRAME : goal.returns-then-area-ne-MAJOR_FRAME
 returns-then-area-ne-MAJOR_FRAME c = let o = order (goal.at.returns-then-area-ne-MAJOR_FRAME c).Else-not-in_order in sym (line _ _ _ _ _ _ o.0 (wrong-area _ _ _ o.1 c.if-area-ne-MAJOR_FRAME.true))

@@ -4,4 +4,4 @@ use lib.ListN.{length}
 use Rattle.relock_vectors.proofs.read_reel.Goals as goal
 
 pub loop-left-init : goal.loop-left-init
-loop-left-init c = refl
+loop-left-init g c = refl

@@ -5,7 +5,7 @@ use lib.ListN.{length}
 use Rattle.relock_vectors.proofs.read_reel.Given as goal
 
 abbrev pub invariant-loop-left : goal.invariant-loop-left
-invariant-loop-left l = length l.area ≡ length l.initial.area
+invariant-loop-left g l = length l.area ≡ length l.initial.area
 
 abbrev pub decreases-loop-left : goal.decreases-loop-left
-decreases-loop-left l = l.left
+decreases-loop-left g l = l.left

@@ -3,7 +3,6 @@ use mathlib.Core.Path.{sym, ◌∙◌}
 use native.Mathlib.Omega.{arith}
 use Rattle.relocking.proofs.Moves.{reads_part, asks_again, reads_frame, leads_other}
 use Rattle.relocking.proofs.decide.Goals as goal
-use Rattle.relocking.proofs.decide.Goals.{After-begins_frame}
 
 pub read_on-requires : goal.read_on-requires
 read_on-requires c = c.requires.0
@@ -16,16 +15,12 @@ pub returns-then-piece-lt4 : goal.returns-then-piece-lt4
 returns-then-piece-lt4 c =
     asks_again _ _ _ _ c.requires.0 c.requires.1 c.requires.2 c.if-piece-lt4.true c.if-ends-piece.false
 
--- after the vote: the group is whole
-module _ (w : After-begins_frame) where
-
 pub read_on-requires-then-begins_frame : goal.read_on-requires-then-begins_frame
 read_on-requires-then-begins_frame c = c.requires.0
 
 pub returns-then-begins_frame : goal.returns-then-begins_frame
 returns-then-begins_frame c =
-    let s = start (goal.at.returns-then-begins_frame c).After-begins_frame in
-    reads_frame _ _ _ _ s.pre.0 s.pre.1 s.pre.2 (omega (arith, c.if-piece-lt4.false)) (sym c.begins_frame.ensures ∙ c.if-begins_frame.true)
+    reads_frame _ _ _ _ c.requires.0 c.requires.1 c.requires.2 (omega (arith, c.if-piece-lt4.false)) (sym c.begins_frame.ensures ∙ c.if-begins_frame.true)
     c.read_on-then-begins_frame.result _ c.read_on-then-begins_frame.ensures
 
 pub lead_in-requires : goal.lead_in-requires
@@ -33,6 +28,5 @@ lead_in-requires c = c.requires.0
 
 pub returns : goal.returns
 returns c =
-    let s = start (goal.at.returns c).After-begins_frame in
-    leads_other _ _ _ _ s.pre.0 s.pre.1 s.pre.2 (omega (arith, c.if-piece-lt4.false)) (sym c.begins_frame.ensures ∙ c.if-begins_frame.false)
+    leads_other _ _ _ _ c.requires.0 c.requires.1 c.requires.2 (omega (arith, c.if-piece-lt4.false)) (sym c.begins_frame.ensures ∙ c.if-begins_frame.false)
     c.lead_in.result _ c.lead_in.ensures

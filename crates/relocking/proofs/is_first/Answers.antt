@@ -2,4 +2,4 @@
 use Rattle.relocking.proofs.is_first.Goals as goal
 
 pub returns-in-Voted : goal.returns-in-Voted
-returns-in-Voted c = rw c.w-1.given.1
+returns-in-Voted c = rw c.in-Voted.is

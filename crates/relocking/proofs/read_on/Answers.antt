@@ -14,7 +14,8 @@ module _ (w : After-take_to_lock-r) where
 
 pub returns : goal.returns
 returns c =
-    let s = start (goal.at.returns c).After-take_to_lock-r in
+    let a = c.args in
     let l = c.take_to_lock-r.result in
-    called-so _ (accepted (goal.at.returns c).After-take_to_lock-r) l _ c.take_to_lock-r.ensures (s.args.waits || l.locked) _ s.args.f.handed
-    (ap (λ (x : Bool). s.args.waits || x) (locked-so _ (accepted (goal.at.returns c).After-take_to_lock-r) l _ c.take_to_lock-r.ensures))
+    let taken = accepted (goal.at.returns c).After-take_to_lock-r in
+    called-so _ taken l _ c.take_to_lock-r.ensures (a.waits || l.locked) _ a.f.handed
+    (ap (λ (x : Bool). a.waits || x) (locked-so _ taken l _ c.take_to_lock-r.ensures))

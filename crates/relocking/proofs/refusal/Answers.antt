@@ -3,24 +3,23 @@ use mathlib.Core.Path.{◌≡◌, sym, ◌∙◌}
 use mathlib.Core.Bool.{true}
 use Prim.Native.Nat.{◌≤◌, ◌^◌}
 use native.Mathlib.Omega.{arith}
-use borrow.Author.Tests.{not-true, not-false}
 use Rattle.labelling.proofs.Ordered.{bytes_within}
 use Rattle.relocking.specs.Relock.{feeder_in_order}
-use Rattle.relocking.proofs.Relocking.{in_order, not_in_order, wrong-area, too_long, accepted-by}
+use Rattle.relocking.proofs.Relocking.{feeder_ordered, not_in_order, wrong-area, too_long, accepted-by}
 use Rattle.relocking.proofs.refusal.Goals as goal
 use Rattle.relocking.proofs.refusal.Goals.{Else-not-in_order}
 
 pub returns-then-not-in_order : goal.returns-then-not-in_order
 returns-then-not-in_order c =
-    sym (not_in_order _ _ _ (sym c.in_order.ensures ∙ not-true c.in_order.result c.if-not-in_order.true))
+    sym (not_in_order _ _ _ (sym c.in_order.ensures ∙ c.if-not-in_order.true))
 
 -- past the first test
 module _ (c : Else-not-in_order) where
   order : feeder_in_order c.args.f ≡ true
-  order = sym c.in_order.ensures ∙ not-false c.in_order.result c.if-not-in_order.false
+  order = sym c.in_order.ensures ∙ c.if-not-in_order.false
 
   within : c.args.f.tally.groups.bytes ≤ 2 ^ 40
-  within = bytes_within c.args.f.tally (in_order c.args.f order).in_tally
+  within = bytes_within c.args.f.tally (feeder_ordered c.args.f order).in_tally
 
 pub returns-then-area-ne-MAJOR_FRAME : goal.returns-then-area-ne-MAJOR_FRAME
 returns-then-area-ne-MAJOR_FRAME c = sym (wrong-area _ _ _ (order (goal.at.returns-then-area-ne-MAJOR_FRAME c).Else-not-in_order) c.if-area-ne-MAJOR_FRAME.true)

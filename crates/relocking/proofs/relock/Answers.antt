@@ -1,6 +1,5 @@
 -- `relocking::relock` meets its contract: refused, or by its move one of the calls below. Assumes nothing.
 use mathlib.Core.Path.{◌≡◌, sym, ◌∙◌}
-use mathlib.Core.Bool.{true}
 use native.Mathlib.Omega.{arith}
 use lib.ListN.{length, take}
 use lib.Seq.{length-take-le}
@@ -9,7 +8,7 @@ use Rattle.relocking.specs.Relock.{relock_refusal}
 use Rattle.relocking.proofs.Relocking.{step_refused, accepts_part}
 use Rattle.relocking.proofs.Moves.{reads_all, reads_before}
 use Rattle.relocking.proofs.relock.Goals as goal
-use Rattle.relocking.proofs.relock.Goals.{After-before_group-k, Else-number-ne0}
+use Rattle.relocking.proofs.relock.Goals.{Else-number-ne0}
 
 pub returns-then-number-ne0 : goal.returns-then-number-ne0
 returns-then-number-ne0 c =
@@ -19,7 +18,7 @@ returns-then-number-ne0 c =
 -- past the first test
 module _ (w : Else-number-ne0) where
   accepted : relock_refusal w.args.f (length w.args.piece.now) (length w.args.area.now) ≡ 0
-  accepted = sym w.refusal-number.ensures ∙ w.if-number-ne0.left
+  accepted = sym w.refusal-number.ensures ∙ w.if-number-ne0.false
 
 pub read_on-requires : goal.read_on-requires
 read_on-requires c = accepted (goal.at.read_on-requires c).Else-number-ne0
@@ -27,11 +26,6 @@ read_on-requires c = accepted (goal.at.read_on-requires c).Else-number-ne0
 pub returns-then-not-f : goal.returns-then-not-f
 returns-then-not-f c =
     reads_all _ _ _ _ (accepted (goal.at.returns-then-not-f c).Else-number-ne0) (not-true _ c.if-not-f.true) c.read_on.result _ c.read_on.ensures
-
--- after the search for a SYNC, while a lock awaits its word
-module _ (v : After-before_group-k) where
-  awaits : v.args.f.awaits ≡ true
-  awaits = not-false _ v.if-not-f.left
 
 pub slice_bounds-read_on-end : goal.slice_bounds-read_on-end
 slice_bounds-read_on-end c = sym (length-take-le _ _ c.before_group-k.ensures.1)
@@ -48,10 +42,10 @@ read_on-requires-then-k-gt0 c =
 pub returns-then-k-gt0 : goal.returns-then-k-gt0
 returns-then-k-gt0 c =
     let found = c.before_group-k.ensures in
-    reads_before _ _ _ _ (accepted (goal.at.returns-then-k-gt0 c).Else-number-ne0) (awaits (goal.at.returns-then-k-gt0 c).After-before_group-k) (omega (arith, found.0, c.if-k-gt0.true)) (omega (arith, found.0, found.1))
+    reads_before _ _ _ _ (accepted (goal.at.returns-then-k-gt0 c).Else-number-ne0) (not-false _ c.if-not-f.false) (omega (arith, found.0, c.if-k-gt0.true)) (omega (arith, found.0, found.1))
     c.read_on-then-k-gt0.result _
     (rw found.0 at c.read_on-then-k-gt0.ensures)
 
 pub decide-requires : goal.decide-requires
 decide-requires c =
-    (accepted (goal.at.decide-requires c).Else-number-ne0, awaits (goal.at.decide-requires c).After-before_group-k, omega (arith, c.before_group-k.ensures.0, c.if-k-gt0.false))
+    (accepted (goal.at.decide-requires c).Else-number-ne0, not-false _ c.if-not-f.false, omega (arith, c.before_group-k.ensures.0, c.if-k-gt0.false))

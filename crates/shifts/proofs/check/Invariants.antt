@@ -1,5 +1,6 @@
 -- `shifts::check` ends: the lines that are left fall. Assumes nothing.
 use Prim.Native.Nat.{◌-◌, ◌≤◌}
+use native.Mathlib.Omega.{arith}
 use Rattle.shifts.proofs.check.Given as goal
 
 abbrev pub invariant-loop-k : goal.invariant-loop-k

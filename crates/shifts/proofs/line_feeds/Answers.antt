@@ -1,3 +1,5 @@
+use Prim.Native.Nat.{◌-◌, ◌≤◌}
+use lib.ListN.{length}
 use native.Mathlib.Omega.{arith}
 use Rattle.shifts.proofs.line_feeds.Goals as goal
 

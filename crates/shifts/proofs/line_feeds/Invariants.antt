@@ -1,6 +1,7 @@
 -- `shifts::line_feeds` meets its contract: a byte is a line feed or none. Assumes nothing.
 use Prim.Native.Nat.{◌-◌, ◌≤◌}
 use lib.ListN.{length}
+use native.Mathlib.Omega.{arith}
 use Rattle.shifts.proofs.line_feeds.Given as goal
 
 abbrev pub invariant-loop-i : goal.invariant-loop-i

@@ -4,7 +4,7 @@ use native.Mathlib.Omega.{arith}
 use Rattle.subcom_vectors.proofs.list_items.Given as goal
 
 abbrev pub invariant-loop-item : goal.invariant-loop-item
-invariant-loop-item l = Unit {0}
+invariant-loop-item g l = Unit {0}
 
 abbrev pub decreases-loop-item : goal.decreases-loop-item
-decreases-loop-item l = l.n - l.item
+decreases-loop-item g l = l.n - l.item

@@ -1,5 +1,8 @@
+use Prim.Native.Nat.{◌≤◌, ◌-◌}
 use native.Mathlib.Omega.{arith}
+use lib.ListN.{length, take}
 use lib.Seq.{take_all, length-take-le}
+use Rattle.tally_text.specs.Listing.{Adds}
 use Rattle.tally_text.proofs.TextLaws.{adds_nothing, adds_one_more, room_after}
 use Rattle.tally_text.proofs.with.Goals as goal
 

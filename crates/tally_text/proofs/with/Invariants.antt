@@ -1,7 +1,10 @@
 -- `tally_text::with` meets its contract: so much of the slice is added as was passed. Assumes nothing.
 use Prim.Native.Nat.{◌≤◌, ◌-◌}
+use native.Mathlib.Omega.{arith}
 use lib.ListN.{length, take}
+use lib.Seq.{take_all, length-take-le}
 use Rattle.tally_text.specs.Listing.{Adds}
+use Rattle.tally_text.proofs.TextLaws.{adds_nothing, adds_one_more, room_after}
 use Rattle.tally_text.proofs.with.Given as goal
 
 abbrev pub invariant-loop-i : goal.invariant-loop-i

@@ -6,15 +6,9 @@ use Rattle.word72_csv.specs.ItemLines.{item_lines}
 use Rattle.word72_csv.proofs.Laws.{no_items, one-item_more}
 use Rattle.word72_csv.proofs.put_items.Goals as goal
 
-pub count_of-count-requires : goal.count_of-count-requires
-count_of-count-requires c = tt
-
 pub loop-item-init : goal.loop-item-init
 loop-item-init c =
     (omega arith, no_items c.args.out.now c.args.year c.args.frame c.args.column.now c.args.kind)
-
-pub put_item-end-requires : goal.put_item-end-requires
-put_item-end-requires c = tt
 
 pub overflow_add-item : goal.overflow_add-item
 overflow_add-item c = record { fits = omega arith }

@@ -1,10 +1,8 @@
 -- `writer::put_fill` meets its contract: after j turns the first j bytes are FILL. Assumes nothing.
-use native.Mathlib.Omega.{arith}
-use mathlib.Core.Path.{◌≡◌, refl, ◌∙◌}
-use mathlib.Core.List.{◌++◌, append-nil}
+use mathlib.Core.Path.{◌≡◌}
+use mathlib.Core.List.{◌++◌}
 use Prim.Native.Nat.{◌-◌, ◌≤◌}
-use lib.ListN.{length, drop, replicate, length-set, drop_of_length-le}
-use borrow.Author.Fill.{fill_none, fill_more}
+use lib.ListN.{length, drop, replicate}
 use Rattle.labelling.specs.Words.{FILL}
 use Rattle.writer.proofs.put_fill.Given as goal
 

@@ -1,6 +1,5 @@
 -- `writer::put_group` meets its contract: four stores at the front, and FILL behind them. Assumes nothing.
 use native.Mathlib.Omega.{arith}
-use mathlib.Core.Path.{◌∙◌}
 use lib.ListN.{length-set}
 use Rattle.writer.proofs.Putting.{group_made}
 use Rattle.writer.proofs.put_group.Goals as goal
@@ -11,8 +10,5 @@ bounds-out-1 c = simp length-set (omega arith)
 pub bounds-out-2 : goal.bounds-out-2
 bounds-out-2 c = simp length-set (omega arith)
 
-pub shape_of-out : goal.shape_of-out
-shape_of-out c = c.out-1.given.1 ∙ simp length-set
-
 pub returns : goal.returns
-returns c = group_made c.args.out.now c.put_fill.new.0 c.args.b c.requires c.put_fill.ensures
+returns c = group_made c.args.out.now c.put_fill.new.out c.args.b c.requires c.put_fill.ensures

@@ -1,9 +1,10 @@
 use native.Mathlib.Omega.{arith}
-use mathlib.Core.Path.{◌≡◌, refl, sym, ◌∙◌}
-use Prim.Native.Nat.{◌+◌, ◌*◌, ◌-◌, ◌≤◌}
+use mathlib.Core.Path.{◌≡◌, refl, sym}
+use Prim.Native.Nat.{◌+◌, ◌≤◌}
 use lib.ListN.{length}
 use borrow.Rule.Slice.PartMut.{mid_len}
-use Rattle.writer.proofs.Putting.{Holds, holds-none, holds-put, room_left, holds-all}
+use borrow.Author.Rules.{rules}
+use Rattle.writer.proofs.Putting.{holds-none, holds-put, room_left, holds-all}
 use Rattle.writer.proofs.put_stream.Goals as goal
 use Rattle.writer.proofs.put_stream.Goals.{In-loop-i}
 
@@ -50,12 +51,10 @@ loop-i-smaller c = omega arith
 pub loop-i-preserved : goal.loop-i-preserved
 loop-i-preserved c =
     let k = c.loop-i in
-    let s = handed (goal.at.loop-i-preserved c).In-loop-i in
-    let step = s.args.step in
-    let group = c.put_group.new.1.0 in
-    let holds = holds-put step s.args.bytes.now s.args.out.now s.pre.0 k.i k.at (k.at + step) k.out group
+    let a = c.args in
+    let holds = holds-put a.step a.bytes.now a.out.now c.requires.0 k.i k.at (k.at + a.step) k.out c.put_group.new.out
     c.loop-i-test.true k.invariant.0 k.invariant.1 refl (room (goal.at.loop-i-preserved c).In-loop-i) c.put_group.ensures in
-    (holds, omega (arith, k.invariant.1), omega (arith, c.loop-i-test.true), c.out-1.given.1 ∙ k.invariant.3)
+    (holds, omega (arith, k.invariant.1), omega (arith, c.loop-i-test.true), search rules)
 
 pub shape_of-out : goal.shape_of-out
 shape_of-out c = c.loop-i.invariant.3

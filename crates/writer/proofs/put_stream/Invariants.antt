@@ -1,10 +1,8 @@
 -- `writer::put_stream` meets its contract: after i turns the slice holds the stream of the first i bytes. Assumes nothing.
-use native.Mathlib.Omega.{arith}
-use mathlib.Core.Path.{◌≡◌, refl, sym, ◌∙◌}
-use Prim.Native.Nat.{◌+◌, ◌*◌, ◌-◌, ◌≤◌}
+use mathlib.Core.Path.{◌≡◌}
+use Prim.Native.Nat.{◌*◌, ◌-◌, ◌≤◌}
 use lib.ListN.{length}
-use borrow.Rule.Slice.PartMut.{mid_len}
-use Rattle.writer.proofs.Putting.{Holds, holds-none, holds-put, room_left, holds-all}
+use Rattle.writer.proofs.Putting.{Holds}
 use Rattle.writer.proofs.put_stream.Given as goal
 
 abbrev pub invariant-loop-i : goal.invariant-loop-i

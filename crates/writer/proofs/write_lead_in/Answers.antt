@@ -16,5 +16,5 @@ returns-then-out-step c =
 pub returns : goal.returns
 returns c =
     let a = c.args in
-    lead_in-written a.spacing a.out.now (omega (arith, c.if-spacing-gt-MOST_SPACING.false)) c.put_stream.new.1.1.0 c.if-out-step.false
+    lead_in-written a.spacing a.out.now (omega (arith, c.if-spacing-gt-MOST_SPACING.false)) c.put_stream.new.out c.if-out-step.false
     c.put_stream.ensures

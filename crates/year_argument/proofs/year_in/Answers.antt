@@ -6,12 +6,16 @@ use Rattle.year_argument.proofs.year_in.Goals as goal
 
 pub returns-then-in_span : goal.returns-then-in_span
 unfolding year_in
-returns-then-in_span g c = rw (sym c.number.ensures ∙ c.in-Value.is) (in_span-year _ (sym c.in_span.ensures ∙ c.if-in_span.true))
+returns-then-in_span g c =
+    let named = sym c.in-Value.ensures in
+    rw named (in_span-year _ (sym c.in_span.ensures ∙ c.if-in_span.true))
 
 pub returns-in-Value : goal.returns-in-Value
 unfolding year_in
-returns-in-Value g c = rw (sym c.number.ensures ∙ c.in-Value.is) (outside-year _ (sym c.in_span.ensures ∙ c.if-in_span.false))
+returns-in-Value g c =
+    let named = sym c.in-Value.ensures in
+    rw named (outside-year _ (sym c.in_span.ensures ∙ c.if-in_span.false))
 
 pub returns-in-NotANumber : goal.returns-in-NotANumber
 unfolding year_in
-returns-in-NotANumber g c = rw (sym c.number.ensures ∙ c.in-NotANumber.is)
+returns-in-NotANumber g c = rw (sym c.in-NotANumber.ensures)

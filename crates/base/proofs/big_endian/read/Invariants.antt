@@ -1,13 +1,8 @@
 -- `base::big_endian::read` meets its contract: after i bytes n is the number of the first i, in 64 bits. Assumes nothing.
-use mathlib.Core.Path.{◌≡◌, ap, ◌∙◌}
-use mathlib.Core.List.{List}
-use Prim.Native.Nat.{ℕ, ◌-◌, ◌%◌, ◌^◌, ◌≤◌, ◌<◌}
-use native.Mathlib.Nat.{mod-eq_of_lt}
-use native.Mathlib.Omega.{arith}
+use mathlib.Core.Path.{◌≡◌}
+use Prim.Native.Nat.{◌-◌, ◌%◌, ◌^◌, ◌≤◌}
 use lib.ListN.{length, take}
-use lib.Seq.{take_all}
 use Rattle.base.specs.Numbers.{big_endian}
-use Rattle.base.proofs.Numbers.{Bytes, read_step, big_endian-fits}
 use Rattle.base.proofs.big_endian.read.Given as goal
 
 abbrev pub invariant-loop-i : goal.invariant-loop-i

@@ -1,9 +1,9 @@
-use mathlib.Core.Path.{◌≡◌, refl, ap, ◌∙◌}
+use mathlib.Core.Path.{refl, ap, ◌∙◌}
 use Prim.Native.Nat.{ℕ, ◌-◌, ◌%◌}
 use native.Mathlib.Omega.{arith}
-use lib.ListN.{length, length-set}
+use lib.ListN.{length-set}
 use Rattle.base.specs.Numbers.{bytes_of}
-use Rattle.base.proofs.Numbers.{Stored, stored-none, stored_more, stored-all}
+use Rattle.base.proofs.Numbers.{stored-none, stored_more, stored-all}
 use Rattle.base.proofs.big_endian.write.Goals as goal
 
 pub loop-i-init : goal.loop-i-init

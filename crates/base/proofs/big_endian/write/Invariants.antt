@@ -1,10 +1,7 @@
 -- `base::big_endian::write` meets its contract: from place i on the bytes are the last of n, and `rest` is what is left of it. Assumes nothing.
-use mathlib.Core.Path.{◌≡◌, refl, ap, ◌∙◌}
-use Prim.Native.Nat.{ℕ, ◌-◌, ◌%◌}
-use native.Mathlib.Omega.{arith}
-use lib.ListN.{length, length-set}
-use Rattle.base.specs.Numbers.{bytes_of}
-use Rattle.base.proofs.Numbers.{Stored, stored-none, stored_more, stored-all}
+use mathlib.Core.Path.{◌≡◌}
+use lib.ListN.{length}
+use Rattle.base.proofs.Numbers.{Stored}
 use Rattle.base.proofs.big_endian.write.Given as goal
 
 abbrev pub invariant-loop-i : goal.invariant-loop-i

@@ -1,6 +1,6 @@
-use mathlib.Core.Path.{◌≡◌, sym, ◌∙◌}
-use mathlib.Core.Bool.{true, false}
-use Prim.Native.Nat.{ℕ, ◌-◌, ◌/◌, ◌≤◌, ◌<◌}
+use mathlib.Core.Path.{ap}
+use mathlib.Core.Bool.{true, false, not}
+use Prim.Native.Nat.{◌/◌}
 use native.Mathlib.Omega.{arith}
 use lib.ListN.{length}
 use borrow.Author.Count.{below_more}
@@ -18,12 +18,12 @@ returns-then-not-is_cycle c =
     let a = c.args in
     let bodies = a.bodies.now in
     stopped (bad_row a.year bodies) (length bodies / 65536) c.loop-i.i (omega arith) c.loop-i.invariant.1
-    (row-tested a.year bodies c.loop-i.i _ true c.is_cycle.ensures c.if-not-is_cycle.true)
+    (row-tested a.year bodies c.loop-i.i _ true c.is_cycle.ensures (ap not c.if-not-is_cycle.true))
 
 pub loop-i-preserved : goal.loop-i-preserved
 loop-i-preserved c =
     let a = c.args in
-    let next = row-tested a.year a.bodies.now c.loop-i.i _ false c.is_cycle.ensures c.if-not-is_cycle.false in
+    let next = row-tested a.year a.bodies.now c.loop-i.i _ false c.is_cycle.ensures (ap not c.if-not-is_cycle.false) in
     (search rules, below_more _ _ c.loop-i.invariant.1 next)
 
 pub returns : goal.returns

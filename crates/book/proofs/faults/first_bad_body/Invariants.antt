@@ -1,12 +1,7 @@
 -- `book::faults::first_bad_body` meets its contract: each body so far is a cycle. Assumes nothing.
-use mathlib.Core.Path.{◌≡◌, sym, ◌∙◌}
-use mathlib.Core.Bool.{true, false}
-use Prim.Native.Nat.{ℕ, ◌-◌, ◌/◌, ◌≤◌, ◌<◌}
-use native.Mathlib.Omega.{arith}
-use lib.ListN.{length}
-use borrow.Author.Count.{below_more}
-use Rattle.base.proofs.Ranges.{stopped, searched}
-use Rattle.book.proofs.Tests.{row-tested}
+use mathlib.Core.Path.{◌≡◌}
+use mathlib.Core.Bool.{false}
+use Prim.Native.Nat.{ℕ, ◌-◌, ◌≤◌, ◌<◌}
 use Rattle.book.specs.Sought.{bad_row}
 use Rattle.book.proofs.faults.first_bad_body.Given as goal
 

@@ -1,10 +1,7 @@
 -- `book::faults::first_bad_instant` meets its contract: each instant so far is its body's, and rises. Assumes nothing.
-use mathlib.Core.Path.{◌≡◌, sym, ◌∙◌}
-use mathlib.Core.Bool.{true, false}
+use mathlib.Core.Path.{◌≡◌}
+use mathlib.Core.Bool.{false}
 use Prim.Native.Nat.{ℕ, ◌-◌, ◌≤◌, ◌<◌}
-use native.Mathlib.Omega.{arith}
-use borrow.Author.Count.{below_more}
-use Rattle.base.proofs.Ranges.{stopped, searched}
 use Rattle.book.specs.Faults.{contents, bad_instant}
 use Rattle.book.proofs.faults.first_bad_instant.Given as goal
 

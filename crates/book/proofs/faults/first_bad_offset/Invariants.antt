@@ -2,11 +2,7 @@
 use mathlib.Core.Path.{◌≡◌}
 use mathlib.Core.Bool.{false}
 use Prim.Native.Nat.{ℕ, ◌-◌, ◌≤◌, ◌<◌}
-use native.Mathlib.Omega.{arith}
-use borrow.Author.Count.{below_more}
-use Rattle.base.proofs.Ranges.{stopped, searched}
 use Rattle.book.specs.Faults.{contents, bad_offset}
-use Rattle.book.proofs.Tests.{other_offset, same-offset}
 use Rattle.book.proofs.faults.first_bad_offset.Given as goal
 
 abbrev pub invariant-loop-i : goal.invariant-loop-i

@@ -1,5 +1,5 @@
 -- `book::faults::first_entry_fault` meets its contract: its three searches are those of the list of faults. Assumes nothing.
-use mathlib.Core.Path.{sym, ◌∙◌}
+use mathlib.Core.Path.{◌∙◌}
 use native.Mathlib.Omega.{arith}
 use Rattle.book.proofs.Viewing.{has_size_lem, refused-17, refused-18, refused-19, none-refused}
 use Rattle.book.proofs.faults.first_entry_fault.Goals as goal

@@ -3,7 +3,7 @@ use Rattle.book_api.proofs.BookCrossed.{check_crossed}
 use Rattle.book_api.proofs.books.pcd_book_check.Goals as goal
 
 pub returns-in-Accepted : goal.returns-in-Accepted
-returns-in-Accepted c = check_crossed _ _ _ c.check.ensures c.enum_told-1.given.1
+returns-in-Accepted c = check_crossed _ _ _ c.check.ensures c.in-Accepted.is
 
 pub returns-in-Faulty : goal.returns-in-Faulty
-returns-in-Faulty c = check_crossed _ _ _ c.check.ensures c.number-1.given.1
+returns-in-Faulty c = check_crossed _ _ _ c.check.ensures c.in-Faulty.is

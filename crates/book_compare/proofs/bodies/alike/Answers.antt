@@ -1,7 +1,4 @@
-use Prim.Native.Nat.{◌-◌}
 use native.Mathlib.Omega.{arith}
-use lib.ListN.{length}
-use Rattle.book_compare.specs.Merge.{Alike}
 use Rattle.book_compare.proofs.FirstByte.{alike-none, alike-more}
 use Rattle.book_compare.proofs.bodies.alike.Goals as goal
 

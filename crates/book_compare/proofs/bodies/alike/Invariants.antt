@@ -1,9 +1,7 @@
 -- `book_compare::bodies::alike` meets its contract: all blocks passed are equal. Assumes nothing.
 use Prim.Native.Nat.{◌-◌}
-use native.Mathlib.Omega.{arith}
 use lib.ListN.{length}
 use Rattle.book_compare.specs.Merge.{Alike}
-use Rattle.book_compare.proofs.FirstByte.{alike-none, alike-more}
 use Rattle.book_compare.proofs.bodies.alike.Given as goal
 
 abbrev pub invariant-loop-at : goal.invariant-loop-at

@@ -1,10 +1,7 @@
 -- `book_compare::bodies::block_differs` meets its contract: while nothing was found to differ, all bytes passed are equal. Assumes nothing.
-use mathlib.Core.Path.{◌≡◌, sym, ◌∙◌}
+use mathlib.Core.Path.{◌≡◌}
 use mathlib.Core.Bool.{false}
-use mathlib.Core.Logic.{⊎_elim}
-use Prim.Native.Nat.{ℕ, ◌-◌, ◌≤◌}
-use native.Mathlib.Omega.{arith}
-use borrow.Author.Count.{below_more}
+use Prim.Native.Nat.{◌-◌, ◌≤◌}
 use Rattle.book_compare.specs.Merge.{AlikeFrom}
 use Rattle.book_compare.proofs.bodies.block_differs.Given as goal
 

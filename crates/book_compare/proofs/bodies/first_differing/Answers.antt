@@ -1,8 +1,5 @@
-use Prim.Native.Nat.{◌-◌}
 use native.Mathlib.Omega.{arith}
-use lib.ListN.{length}
 use borrow.Author.Count.{below_more}
-use Rattle.book_compare.specs.Merge.{Alike}
 use Rattle.book_compare.proofs.FirstByte.{differs_at, differs_not}
 use Rattle.book_compare.proofs.bodies.first_differing.Goals as goal
 

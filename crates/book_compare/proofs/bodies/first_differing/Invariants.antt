@@ -1,10 +1,7 @@
 -- `book_compare::bodies::first_differing` meets its contract: from where blocks end, byte by byte, all bytes passed are equal. Assumes nothing.
 use Prim.Native.Nat.{◌-◌}
-use native.Mathlib.Omega.{arith}
 use lib.ListN.{length}
-use borrow.Author.Count.{below_more}
 use Rattle.book_compare.specs.Merge.{Alike}
-use Rattle.book_compare.proofs.FirstByte.{differs_at, differs_not}
 use Rattle.book_compare.proofs.bodies.first_differing.Given as goal
 
 abbrev pub invariant-loop-at : goal.invariant-loop-at

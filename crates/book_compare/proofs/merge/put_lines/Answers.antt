@@ -1,10 +1,6 @@
-use Prim.Native.Nat.{◌+◌, ◌-◌, ◌≤◌}
-use mathlib.Core.Path.{◌≡◌}
 use native.Mathlib.Omega.{arith}
-use lib.ListN.{length}
-use Rattle.book_compare.specs.Merge.{Placed}
 use Rattle.book.proofs.Headers.{count-is, few_cycles}
-use Rattle.book_compare.proofs.Merging.{Progress, begun, no_line, one_line, ended, placed_on}
+use Rattle.book_compare.proofs.Merging.{begun, no_line, one_line, ended, placed_on}
 use borrow.Author.Rules.{rules}
 use Rattle.book_compare.proofs.merge.put_lines.Goals as goal
 

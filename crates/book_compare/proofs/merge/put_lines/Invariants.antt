@@ -2,11 +2,9 @@
 -- there are at most 510. Assumes nothing.
 use Prim.Native.Nat.{◌+◌, ◌-◌, ◌≤◌}
 use mathlib.Core.Path.{◌≡◌}
-use native.Mathlib.Omega.{arith}
 use lib.ListN.{length}
 use Rattle.book_compare.specs.Merge.{Placed}
-use Rattle.book.proofs.Headers.{count-is, few_cycles}
-use Rattle.book_compare.proofs.Merging.{Progress, begun, no_line, one_line, ended, placed_on}
+use Rattle.book_compare.proofs.Merging.{Progress}
 use Rattle.book_compare.proofs.merge.put_lines.Given as goal
 
 abbrev pub invariant-loop-i : goal.invariant-loop-i

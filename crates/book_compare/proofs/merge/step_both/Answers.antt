@@ -1,5 +1,5 @@
 -- `book_compare::merge::step_both` meets its contract: each way out is a step of the merge. Assumes nothing.
-use mathlib.Core.Path.{◌≡◌, sym, ap, ◌∙◌}
+use mathlib.Core.Path.{sym, ap, ◌∙◌}
 use native.Mathlib.Omega.{arith}
 use lib.ListN.{length}
 use Rattle.book.proofs.Headers.{few_cycles}

@@ -1,5 +1,6 @@
--- What stands before the part that a read is lent stays.
-use Rattle.std.proofs.Common.{length, ◌-◌}
+-- `command::files::fill` meets its contract: what stands before the part that a read is lent stays. Assumes nothing.
+use Prim.Native.Nat.{◌-◌}
+use lib.ListN.{length}
 use Rattle.command.proofs.FileLaws.{Kept}
 use Rattle.command.proofs.files.fill.Given as goal
 

@@ -16,9 +16,6 @@ loop-i-init c = none_read _
 pub bounds-text-i : goal.bounds-text-i
 bounds-text-i c = omega arith
 
-pub is_digit-requires : goal.is_digit-requires
-is_digit-requires c = tt
-
 pub returns-then-not-is_digit : goal.returns-then-not-is_digit
 returns-then-not-is_digit c =
     other_byte _ _ _ c.loop-i.invariant c.loop-i-test.true (sym c.is_digit.ensures ∙ c.if-not-is_digit.true)
@@ -27,9 +24,6 @@ pub overflow_mul-n : goal.overflow_mul-n
 overflow_mul-n c =
     let small = room _ _ _ c.loop-i.invariant c.loop-i-test.true c.if-text-gt-MOST_DIGITS.false in
     record { fits = omega arith }
-
-pub digit-requires : goal.digit-requires
-digit-requires c = tt
 
 pub overflow_add-n : goal.overflow_add-n
 overflow_add-n c =

@@ -3,17 +3,11 @@ use lib.Seq.{take_all}
 use Rattle.command.proofs.TextLaws.{adds_one_more}
 use Rattle.command.proofs.text.put.Goals as goal
 
-pub begin-end-requires : goal.begin-end-requires
-begin-end-requires c = tt
-
 pub loop-i-init : goal.loop-i-init
 loop-i-init c = (omega arith, c.begin-end.ensures)
 
 pub bounds-text-i : goal.bounds-text-i
 bounds-text-i c = omega arith
-
-pub put_byte-end-requires : goal.put_byte-end-requires
-put_byte-end-requires c = tt
 
 pub overflow_add-i : goal.overflow_add-i
 overflow_add-i c = omega arith

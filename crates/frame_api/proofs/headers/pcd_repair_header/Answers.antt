@@ -3,7 +3,7 @@ use Rattle.frame_api.proofs.HeaderCrossed.{repair_crossed}
 use Rattle.frame_api.proofs.headers.pcd_repair_header.Goals as goal
 
 pub returns-in-Corrected : goal.returns-in-Corrected
-returns-in-Corrected c = repair_crossed _ _ _ _ _ c.repair.ensures c.count-1.given.1
+returns-in-Corrected c = repair_crossed _ _ _ _ _ c.repair.ensures c.in-Corrected.is
 
 pub returns-in-Refused : goal.returns-in-Refused
-returns-in-Refused c = repair_crossed _ _ _ _ _ c.repair.ensures c.number-1.given.1
+returns-in-Refused c = repair_crossed _ _ _ _ _ c.repair.ensures c.in-Refused.is

@@ -3,7 +3,7 @@ use Rattle.frame_api.proofs.PointerCrossed.{pointer_crossed}
 use Rattle.frame_api.proofs.pointer.pcd_pointer_distance.Goals as goal
 
 pub returns-in-Given : goal.returns-in-Given
-returns-in-Given c = pointer_crossed _ _ _ _ _ c.distance.ensures.answers c.v-1.given.1
+returns-in-Given c = pointer_crossed _ _ _ _ _ c.distance.ensures.answers c.in-Given.is
 
 pub returns-in-Refused : goal.returns-in-Refused
-returns-in-Refused c = pointer_crossed _ _ _ _ _ c.distance.ensures.answers c.number-1.given.1
+returns-in-Refused c = pointer_crossed _ _ _ _ _ c.distance.ensures.answers c.in-Refused.is

@@ -1,10 +1,8 @@
 -- `nominal::cell_row::are_cells` meets its contract: where nothing is wrong so far, each byte so far belongs where it stands. Assumes nothing.
 use mathlib.Core.Path.{◌≡◌}
 use Prim.Native.Nat.{◌-◌, ◌≤◌}
-use native.Mathlib.Omega.{arith}
-use borrow.Author.Tests.{eqb-true}
 use Rattle.nominal.specs.Stretches.{InCell}
-use Rattle.nominal.proofs.Rows.{or_none, Belong, belong_more, cell-row_of}
+use Rattle.nominal.proofs.Rows.{Belong}
 use Rattle.nominal.proofs.cell_row.are_cells.Given as goal
 
 abbrev pub invariant-loop-k : goal.invariant-loop-k

@@ -1,9 +1,6 @@
 -- `nominal::cell_row::put_cells` meets its contract: one word more at each turn. Assumes nothing.
-use mathlib.Core.Path.{◌≡◌}
 use Prim.Native.Nat.{◌+◌, ◌*◌, ◌-◌, ◌≤◌}
-use native.Mathlib.Omega.{arith}
 use Rattle.nominal.specs.Stretches.{Stored}
-use Rattle.nominal.proofs.Joining.{one_cell, stored-none, stored_more}
 use Rattle.nominal.proofs.cell_row.put_cells.Given as goal
 
 abbrev pub invariant-loop-k : goal.invariant-loop-k

@@ -1,8 +1,7 @@
-use mathlib.Core.List.{[]}
-use Prim.Native.Nat.{◌+◌, ◌-◌}
+use Prim.Native.Nat.{◌+◌}
 use native.Mathlib.Omega.{arith}
 use Rattle.nominal.proofs.Digits.{eight_fill}
-use Rattle.nominal.specs.Stretches.{Nominal, ends}
+use Rattle.nominal.specs.Stretches.{ends}
 use Rattle.nominal.proofs.Joining.{nominal_join, four-fill}
 use Rattle.nominal.proofs.fill.skip_eights.Goals as goal
 

@@ -1,10 +1,7 @@
 -- `nominal::fill::skip_eights` meets its contract: the FILL so far, and eight more at each turn. Assumes nothing.
 use mathlib.Core.List.{[]}
-use Prim.Native.Nat.{◌+◌, ◌-◌}
-use native.Mathlib.Omega.{arith}
-use Rattle.nominal.proofs.Digits.{eight_fill}
-use Rattle.nominal.specs.Stretches.{Nominal, ends}
-use Rattle.nominal.proofs.Joining.{nominal_join, four-fill}
+use Prim.Native.Nat.{◌-◌}
+use Rattle.nominal.specs.Stretches.{Nominal}
 use Rattle.nominal.proofs.fill.skip_eights.Given as goal
 
 abbrev pub invariant-loop-at : goal.invariant-loop-at

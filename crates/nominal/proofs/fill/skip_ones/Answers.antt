@@ -1,9 +1,6 @@
 use mathlib.Core.Path.{refl}
-use mathlib.Core.List.{[]}
-use Prim.Native.Nat.{◌-◌}
 use native.Mathlib.Omega.{arith}
-use lib.ListN.{length}
-use Rattle.nominal.specs.Stretches.{Nominal, ends}
+use Rattle.nominal.specs.Stretches.{ends}
 use Rattle.nominal.proofs.Joining.{nominal_join, one-fill}
 use Rattle.nominal.proofs.fill.skip_ones.Goals as goal
 

@@ -1,11 +1,8 @@
 -- `nominal::fill::skip_ones` meets its contract: the FILL so far, and one more at each turn. Assumes nothing.
-use mathlib.Core.Path.{refl}
 use mathlib.Core.List.{[]}
 use Prim.Native.Nat.{◌-◌}
-use native.Mathlib.Omega.{arith}
 use lib.ListN.{length}
-use Rattle.nominal.specs.Stretches.{Nominal, ends}
-use Rattle.nominal.proofs.Joining.{nominal_join, one-fill}
+use Rattle.nominal.specs.Stretches.{Nominal}
 use Rattle.nominal.proofs.fill.skip_ones.Given as goal
 
 abbrev pub invariant-loop-at : goal.invariant-loop-at

@@ -1,7 +1,4 @@
-use Prim.Native.Nat.{ℕ, ◌-◌, ◌≤◌}
 use native.Mathlib.Omega.{arith}
-use borrow.Author.Tests.{not-false}
-use Rattle.nominal.specs.Stretches.{Hunted}
 use Rattle.nominal.proofs.Joining.{one_cell, hunted_word}
 use Rattle.nominal.proofs.hunting.other_cells.Goals as goal
 
@@ -38,7 +35,7 @@ loop-at-smaller c = omega arith
 pub loop-at-preserved : goal.loop-at-preserved
 loop-at-preserved c =
     let k = c.loop-at in
-    let cell = c.is_cell.ensures.holds (not-false _ c.if-not-is_cell.false) in
+    let cell = c.is_cell.ensures.holds c.if-not-is_cell.false in
     (λ i h. hunted_word (k.invariant.0 i h) (one_cell cell) (λ e. omega arith), omega arith)
 
 pub returns : goal.returns

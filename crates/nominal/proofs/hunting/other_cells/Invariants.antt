@@ -1,9 +1,6 @@
 -- `nominal::hunting::other_cells` meets its contract: the cells so far are passed, and one more at each turn. Assumes nothing.
 use Prim.Native.Nat.{ℕ, ◌-◌, ◌≤◌}
-use native.Mathlib.Omega.{arith}
-use borrow.Author.Tests.{not-false}
 use Rattle.nominal.specs.Stretches.{Hunted}
-use Rattle.nominal.proofs.Joining.{one_cell, hunted_word}
 use Rattle.nominal.proofs.hunting.other_cells.Given as goal
 
 abbrev pub invariant-loop-at : goal.invariant-loop-at

@@ -1,11 +1,5 @@
 use mathlib.Core.Path.{sym, ◌∙◌}
-use Prim.Native.Nat.{ℕ, ◌-◌, ◌≤◌}
 use native.Mathlib.Omega.{arith}
-use lib.ListN.{length}
-use borrow.Author.Tests.{not-true, not-false}
-use Rattle.base.specs.Format.{FILL}
-use Rattle.quiet.specs.Quiet.{Byte}
-use Rattle.nominal.specs.Stretches.{Hunted}
 use Rattle.nominal.proofs.Joining.{nominal_far, nominal_inside, one-group, group_there, stops_short, stops_unlike, stops_left}
 use Rattle.nominal.proofs.Joining.{hunted_fill, hunted_word}
 use Rattle.nominal.proofs.hunting.other_groups.Goals as goal
@@ -34,7 +28,7 @@ returns-then-not-is_group c =
     let begun = c.skip_fill-at.ensures.stretch in
     λ i h. record {
       hunted = k.invariant.0 i (hunted_fill h begun);
-      stops = stops_unlike k.invariant.2 test.result (λ x g. test.ensures.told (group_there g)) (not-true _ c.if-not-is_group.true);
+      stops = stops_unlike k.invariant.2 test.result (λ x g. test.ensures.told (group_there g)) c.if-not-is_group.true;
     }
 
 pub returns-then-x : goal.returns-then-x
@@ -60,7 +54,7 @@ loop-at-smaller c =
 pub loop-at-preserved : goal.loop-at-preserved
 loop-at-preserved c =
     let k = c.loop-at in
-    let g = c.is_group.ensures.holds (not-false _ c.if-not-is_group.false) in
+    let g = c.is_group.ensures.holds c.if-not-is_group.false in
     let filled = c.skip_fill-at-in-loop-at.ensures in (
       λ i h. hunted_fill (hunted_word (k.invariant.0 i h) (one-group g) (λ e. omega arith)) filled.stretch,
       omega (arith, nominal_far filled.stretch),

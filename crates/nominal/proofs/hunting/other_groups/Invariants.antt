@@ -1,15 +1,10 @@
 -- `nominal::hunting::other_groups` meets its contract: the groups so far are passed with the FILL after them, and one more at each turn; it
 -- ends where the test of a group fails, where FA comes next, or where no whole group is left. Assumes nothing.
-use mathlib.Core.Path.{sym, ◌∙◌}
 use Prim.Native.Nat.{ℕ, ◌-◌, ◌≤◌}
-use native.Mathlib.Omega.{arith}
 use lib.ListN.{length}
-use borrow.Author.Tests.{not-true, not-false}
 use Rattle.base.specs.Format.{FILL}
 use Rattle.quiet.specs.Quiet.{Byte}
 use Rattle.nominal.specs.Stretches.{Hunted}
-use Rattle.nominal.proofs.Joining.{nominal_far, nominal_inside, one-group, group_there, stops_short, stops_unlike, stops_left}
-use Rattle.nominal.proofs.Joining.{hunted_fill, hunted_word}
 use Rattle.nominal.proofs.hunting.other_groups.Given as goal
 
 abbrev pub invariant-loop-at : goal.invariant-loop-at

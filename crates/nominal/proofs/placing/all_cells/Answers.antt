@@ -18,10 +18,10 @@ returns c =
     let rowed = c.cell_rows-rowed in
     let p = c.args.piece.now in
     let rows = rowed.ensures in
-    let one = c.cells.ensures in (
-      stored-join rows one.0,
-      λ x cell h e.
-          let stays : rowed.result.at ≡ c.args.from = omega (arith, e, nominal_far rows.stretch, nominal_far one.0.stretch) in
+    let one = c.cells.ensures in record {
+      stored = stored-join rows one.stored;
+      goes_on = λ x cell h e.
+          let stays : rowed.result.at ≡ c.args.from = omega (arith, e, nominal_far rows.stretch, nominal_far one.stored.stretch) in
           let room : rowed.result.placed < 127 = omega (arith, h, stays, rows.place_is, nominal_far rows.stretch) in
-          one.1 x (subst (λ (i : ℕ). Cell p i x) (sym stays) cell) room (e ∙ sym stays),
-    )
+          one.goes_on x (subst (λ (i : ℕ). Cell p i x) (sym stays) cell) room (e ∙ sym stays);
+    }

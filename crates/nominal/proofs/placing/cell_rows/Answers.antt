@@ -1,8 +1,6 @@
-use Prim.Native.Nat.{◌+◌, ◌-◌}
+use Prim.Native.Nat.{◌+◌}
 use native.Mathlib.Omega.{arith}
-use borrow.Author.Tests.{not-false}
 use Rattle.nominal.proofs.Joining.{stored-none, stored-join}
-use Rattle.nominal.proofs.Rows.{Rowed}
 use Rattle.nominal.proofs.placing.cell_rows.Goals as goal
 
 pub overflow_add-starts : goal.overflow_add-starts
@@ -40,7 +38,7 @@ pub returns-then-not-are_cells : goal.returns-then-not-are_cells
 returns-then-not-are_cells c = c.loop-at.invariant.stored
 
 pub put_cells-requires : goal.put_cells-requires
-put_cells-requires c = (c.are_cells.ensures (not-false _ c.if-not-are_cells.false), omega arith)
+put_cells-requires c = (c.are_cells.ensures c.if-not-are_cells.false, omega arith)
 
 pub overflow_add-p : goal.overflow_add-p
 overflow_add-p c = omega arith

@@ -1,9 +1,6 @@
 -- `nominal::placing::cell_rows` meets its contract: the rows of cells so far are stored, and one more at each turn. The position
 -- and the place go up together, so that one bound serves for both. Assumes nothing.
-use Prim.Native.Nat.{◌+◌, ◌-◌}
-use native.Mathlib.Omega.{arith}
-use borrow.Author.Tests.{not-false}
-use Rattle.nominal.proofs.Joining.{stored-none, stored-join}
+use Prim.Native.Nat.{◌-◌}
 use Rattle.nominal.proofs.Rows.{Rowed}
 use Rattle.nominal.proofs.placing.cell_rows.Given as goal
 

@@ -1,9 +1,6 @@
-use mathlib.Core.Path.{◌≡◌, refl, sym, ◌∙◌}
+use mathlib.Core.Path.{refl, sym, ◌∙◌}
 use mathlib.Core.Bool.{true≢false}
-use Prim.Native.Nat.{◌+◌, ◌*◌, ◌-◌, ◌≤◌}
 use native.Mathlib.Omega.{arith}
-use borrow.Author.Tests.{not-true, not-false}
-use Rattle.nominal.specs.Stretches.{Stored}
 use Rattle.nominal.proofs.Joining.{one_cell, cell_at, stored-none, stored-word, stored-join}
 use Rattle.nominal.proofs.placing.cells.Goals as goal
 
@@ -35,7 +32,10 @@ pub returns-then-not-is_cell : goal.returns-then-not-is_cell
 returns-then-not-is_cell c =
     let k = c.loop-at in
     let test = c.is_cell in
-    (k.invariant.0, λ x cell h e. true≢false (sym (test.ensures.told (cell_at (sym e) cell)) ∙ not-true _ c.if-not-is_cell.true))
+    record {
+      stored = k.invariant.0;
+      goes_on = λ x cell h e. true≢false (sym (test.ensures.told (cell_at (sym e) cell)) ∙ c.if-not-is_cell.true);
+    }
 
 pub bounds-frame-p : goal.bounds-frame-p
 bounds-frame-p c = omega arith
@@ -52,10 +52,13 @@ loop-at-smaller c = omega arith
 pub loop-at-preserved : goal.loop-at-preserved
 loop-at-preserved c =
     let k = c.loop-at in
-    let cell = c.is_cell.ensures.holds (not-false _ c.if-not-is_cell.false) in
+    let cell = c.is_cell.ensures.holds c.if-not-is_cell.false in
     (stored-join k.invariant.0 (stored-word k.p k.frame (omega arith) (one_cell cell)), omega arith, omega arith)
 
 pub returns : goal.returns
 returns c =
     let bound = c.stop_of-stop.ensures.lower_bound in
-    (c.loop-at.invariant.0, λ x cell h e. let further = bound (omega (arith, cell.fifth.inside)) (omega arith) in omega arith)
+    record {
+      stored = c.loop-at.invariant.0;
+      goes_on = λ x cell h e. let further = bound (omega (arith, cell.fifth.inside)) (omega arith) in omega arith;
+    }

@@ -1,12 +1,8 @@
 -- `nominal::placing::cells` meets its contract: the cells so far are stored, and one more at each turn. The position
 -- and the place go up together, so that one bound serves for both. Assumes nothing.
-use mathlib.Core.Path.{◌≡◌, refl, sym, ◌∙◌}
-use mathlib.Core.Bool.{true≢false}
+use mathlib.Core.Path.{◌≡◌}
 use Prim.Native.Nat.{◌+◌, ◌*◌, ◌-◌, ◌≤◌}
-use native.Mathlib.Omega.{arith}
-use borrow.Author.Tests.{not-true, not-false}
 use Rattle.nominal.specs.Stretches.{Stored}
-use Rattle.nominal.proofs.Joining.{one_cell, cell_at, stored-none, stored-word, stored-join}
 use Rattle.nominal.proofs.placing.cells.Given as goal
 
 abbrev pub invariant-loop-at : goal.invariant-loop-at

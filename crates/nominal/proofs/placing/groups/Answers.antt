@@ -1,10 +1,5 @@
-use Prim.Native.Nat.{◌+◌, ◌-◌, ◌≤◌}
+use Prim.Native.Nat.{◌+◌}
 use native.Mathlib.Omega.{arith}
-use lib.ListN.{length}
-use borrow.Author.Tests.{not-true, not-false}
-use Rattle.base.specs.Format.{FILL}
-use Rattle.quiet.specs.Quiet.{Byte}
-use Rattle.nominal.specs.Stretches.{Stored}
 use Rattle.nominal.proofs.Joining.{nominal_far, nominal_inside, one-group, group_there, stops_short, stops_unlike, stops_left}
 use Rattle.nominal.proofs.Joining.{stored-fill, stored-word, stored-join}
 use Rattle.nominal.proofs.placing.groups.Goals as goal
@@ -37,7 +32,7 @@ returns-then-not-is_group c =
     let test = c.is_group in
     record {
       stored = k.invariant.0;
-      stops = stops_unlike k.invariant.2 test.result (λ x g. test.ensures.told (group_there g)) (not-true _ c.if-not-is_group.true);
+      stops = stops_unlike k.invariant.2 test.result (λ x g. test.ensures.told (group_there g)) c.if-not-is_group.true;
     }
 
 pub bounds-frame-p : goal.bounds-frame-p
@@ -57,7 +52,7 @@ loop-at-smaller c =
 pub loop-at-preserved : goal.loop-at-preserved
 loop-at-preserved c =
     let k = c.loop-at in
-    let g = c.is_group.ensures.holds (not-false _ c.if-not-is_group.false) in
+    let g = c.is_group.ensures.holds c.if-not-is_group.false in
     let one = stored-join k.invariant.0 (stored-word k.p k.frame (omega arith) (one-group g)) in
     let filled = c.skip_fill-at-in-loop-at.ensures in
     (stored-join one (stored-fill (k.p + 1) _ filled.stretch), omega arith, filled.no_fill)

@@ -1,14 +1,10 @@
 -- `nominal::placing::groups` meets its contract: the groups so far are stored with the FILL after them, and one more at each turn; it ends
 -- where the last place comes next, where the test of a group fails, or where no whole group is left. Assumes nothing.
-use Prim.Native.Nat.{◌+◌, ◌-◌, ◌≤◌}
-use native.Mathlib.Omega.{arith}
+use Prim.Native.Nat.{◌-◌, ◌≤◌}
 use lib.ListN.{length}
-use borrow.Author.Tests.{not-true, not-false}
 use Rattle.base.specs.Format.{FILL}
 use Rattle.quiet.specs.Quiet.{Byte}
 use Rattle.nominal.specs.Stretches.{Stored}
-use Rattle.nominal.proofs.Joining.{nominal_far, nominal_inside, one-group, group_there, stops_short, stops_unlike, stops_left}
-use Rattle.nominal.proofs.Joining.{stored-fill, stored-word, stored-join}
 use Rattle.nominal.proofs.placing.groups.Given as goal
 
 abbrev pub invariant-loop-at : goal.invariant-loop-at

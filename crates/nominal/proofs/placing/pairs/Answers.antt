@@ -1,19 +1,9 @@
 use mathlib.Core.Path.{◌≡◌}
-use mathlib.Core.List.{List}
-use Prim.Native.Nat.{ℕ, ◌+◌, ◌*◌, ◌-◌}
+use Prim.Native.Nat.{◌+◌}
 use native.Mathlib.Omega.{arith}
 use lib.ListN.{get_or, set}
-use borrow.Author.Tests.{not-false}
-use Rattle.nominal.specs.Stretches.{Stored}
 use Rattle.nominal.proofs.Joining.{one-group, stored-none, stored-word, stored-join}
 use Rattle.nominal.proofs.placing.pairs.Goals as goal
-
--- so many turns, and what they have stored
-record Paired (piece : List ℕ) (from start : ℕ) (frame₀ frame : List ℕ) (at p : ℕ) : Type 0 where
-  turns : ℕ
-  at_is : at ≡ from + 8 * turns
-  place_is : p ≡ start + 2 * turns
-  stored : Stored piece from at start p frame₀ frame
 
 pub starts-requires : goal.starts-requires
 starts-requires c = omega arith
@@ -71,7 +61,7 @@ pub loop-at-preserved : goal.loop-at-preserved
 loop-at-preserved c =
     let k = c.loop-at in
     let x = get_or c.args.piece.now (k.at + 1) 0 in
-    let both = c.is_pair.ensures.holds (not-false _ c.if-not-is_pair.false) in
+    let both = c.is_pair.ensures.holds c.if-not-is_pair.false in
     let one = stored-join k.invariant.stored (stored-word k.p k.frame (omega arith) (one-group both.lower)) in
     let four : k.at + 4 + 4 ≡ k.at + 8 = omega arith in
     let two : k.p + 1 + 1 ≡ k.p + 2 = omega arith in

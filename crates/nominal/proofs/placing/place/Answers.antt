@@ -2,18 +2,17 @@
 -- Assumes nothing.
 use Prim.Native.Nat.{◌≤◌}
 use native.Mathlib.Omega.{arith}
-use borrow.Author.Tests.{not-true}
 use Rattle.base.specs.Format.{FILL}
 use Rattle.quiet.specs.Quiet.{Byte}
 use Rattle.nominal.specs.Stretches.{last_place, Stored}
 use Rattle.nominal.proofs.Joining.{stops_left, stops_unlike, stored-fill, stored-join, all-stored}
 use Rattle.nominal.proofs.placing.place.Goals as goal
-use Rattle.nominal.proofs.placing.place.Goals.{After-pairs-paired, After-rows-rowed, After-spaced_cells-spaced}
+use Rattle.nominal.proofs.placing.place.Goals.{After-rows-rowed, After-spaced_cells-spaced}
 
 -- FILL, and the cells after it
 module _ (c : After-spaced_cells-spaced) where
   spaced-stored : Stored c.args.piece.now c.args.from c.spaced_cells-spaced.result.at c.args.start c.spaced_cells-spaced.result.placed
-      c.args.frame.now c.spaced_cells-spaced.new.1.1.1.0
+      c.args.frame.now c.spaced_cells-spaced.new.frame
   spaced-stored =
       stored-join (stored-fill c.args.start c.args.frame.now c.skip_fill-at.ensures.stretch) c.spaced_cells-spaced.ensures.stored
 
@@ -25,9 +24,6 @@ module _ (c : After-spaced_cells-spaced) where
 
 room_rows : (c : After-rows-rowed) → c.rows-rowed.result.placed ≤ last_place
 room_rows c = c.rows-rowed.ensures.room (omega arith)
-
-room_pairs : (c : After-pairs-paired) → c.pairs-paired.result.placed ≤ last_place
-room_pairs c = c.pairs-paired.ensures.room (room_rows c.before.before)
 
 pub returns-then-start-ge-LAST_PLACE : goal.returns-then-start-ge-LAST_PLACE
 returns-then-start-ge-LAST_PLACE c =
@@ -46,14 +42,14 @@ returns-then-not-group_stands c =
     let stands = c.group_stands in
     record {
       stored = spaced-stored (goal.at.returns-then-not-group_stands c).After-spaced_cells-spaced;
-      stops = stops_unlike (no_fill (goal.at.returns-then-not-group_stands c).After-spaced_cells-spaced) stands.result stands.ensures (not-true _ c.if-not-group_stands.true);
+      stops = stops_unlike (no_fill (goal.at.returns-then-not-group_stands c).After-spaced_cells-spaced) stands.result stands.ensures c.if-not-group_stands.true;
     }
 
 pub pairs-paired-requires : goal.pairs-paired-requires
 pairs-paired-requires c = room_rows (goal.at.pairs-paired-requires c).After-rows-rowed
 
 pub groups-requires : goal.groups-requires
-groups-requires c = room_pairs (goal.at.groups-requires c).After-pairs-paired
+groups-requires c = c.pairs-paired.ensures.room (room_rows (goal.at.groups-requires c).After-rows-rowed)
 
 pub returns : goal.returns
 returns c =

@@ -1,8 +1,6 @@
-use Prim.Native.Nat.{◌+◌, ◌-◌}
+use Prim.Native.Nat.{◌+◌}
 use native.Mathlib.Omega.{arith}
-use borrow.Author.Tests.{not-false}
 use Rattle.nominal.proofs.Joining.{stored-none, stored-join}
-use Rattle.nominal.proofs.Rows.{Rowed}
 use Rattle.nominal.proofs.placing.rows.Goals as goal
 
 pub overflow_add-starts : goal.overflow_add-starts
@@ -31,7 +29,7 @@ pub returns-then-not-is_row : goal.returns-then-not-is_row
 returns-then-not-is_row c = c.loop-at.invariant.stored
 
 pub put_row-requires : goal.put_row-requires
-put_row-requires c = (c.is_row.ensures (not-false _ c.if-not-is_row.false), omega arith)
+put_row-requires c = (c.is_row.ensures c.if-not-is_row.false, omega arith)
 
 pub overflow_add-p : goal.overflow_add-p
 overflow_add-p c = omega arith

@@ -1,9 +1,6 @@
 -- `nominal::placing::rows` meets its contract: the rows so far are stored, and one more at each turn. The position
 -- and the place go up together, so that one bound serves for both. Assumes nothing.
-use Prim.Native.Nat.{◌+◌, ◌-◌}
-use native.Mathlib.Omega.{arith}
-use borrow.Author.Tests.{not-false}
-use Rattle.nominal.proofs.Joining.{stored-none, stored-join}
+use Prim.Native.Nat.{◌-◌}
 use Rattle.nominal.proofs.Rows.{Rowed}
 use Rattle.nominal.proofs.placing.rows.Given as goal
 

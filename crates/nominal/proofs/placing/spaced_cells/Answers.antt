@@ -1,10 +1,4 @@
-use Prim.Native.Nat.{◌-◌, ◌≤◌}
 use native.Mathlib.Omega.{arith}
-use lib.ListN.{length}
-use borrow.Author.Tests.{not-false}
-use Rattle.base.specs.Format.{FILL}
-use Rattle.quiet.specs.Quiet.{Byte}
-use Rattle.nominal.specs.Stretches.{Stored}
 use Rattle.nominal.proofs.Joining.{nominal_far, stored-none, stored-fill, stored-join}
 use Rattle.nominal.proofs.placing.spaced_cells.Goals as goal
 
@@ -16,17 +10,17 @@ loop-p-init c =
 pub returns-then-not-cell_stands : goal.returns-then-not-cell_stands
 returns-then-not-cell_stands c =
     let k = c.loop-p in
-    (k.invariant.0, k.invariant.2)
+    record { stored = k.invariant.0; fact = k.invariant.2 }
 
 pub all_cells-run-requires : goal.all_cells-run-requires
 all_cells-run-requires c = omega arith
 
 pub loop-p-smaller : goal.loop-p-smaller
 loop-p-smaller c =
-    let cell = c.cell_stands.ensures (not-false _ c.if-not-cell_stands.false) in
+    let cell = c.cell_stands.ensures c.if-not-cell_stands.false in
     let taken = c.all_cells-run.ensures in
-    let further = taken.1 _ cell (omega arith) in
-    omega (arith, further, nominal_far taken.0.stretch, nominal_far c.skip_fill-at.ensures.stretch, cell.fifth.inside)
+    let further = taken.goes_on _ cell (omega arith) in
+    omega (arith, further, nominal_far taken.stored.stretch, nominal_far c.skip_fill-at.ensures.stretch, cell.fifth.inside)
 
 pub loop-p-preserved : goal.loop-p-preserved
 loop-p-preserved c =
@@ -38,4 +32,4 @@ loop-p-preserved c =
 pub returns : goal.returns
 returns c =
     let k = c.loop-p in
-    (k.invariant.0, k.invariant.2)
+    record { stored = k.invariant.0; fact = k.invariant.2 }

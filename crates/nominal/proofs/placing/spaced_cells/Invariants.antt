@@ -1,13 +1,10 @@
 -- `nominal::placing::spaced_cells` meets its contract: the cells so far are stored with the FILL after them, and more at each turn, since a cell stands
 -- there. Assumes nothing.
 use Prim.Native.Nat.{◌-◌, ◌≤◌}
-use native.Mathlib.Omega.{arith}
 use lib.ListN.{length}
-use borrow.Author.Tests.{not-false}
 use Rattle.base.specs.Format.{FILL}
 use Rattle.quiet.specs.Quiet.{Byte}
 use Rattle.nominal.specs.Stretches.{Stored}
-use Rattle.nominal.proofs.Joining.{nominal_far, stored-none, stored-fill, stored-join}
 use Rattle.nominal.proofs.placing.spaced_cells.Given as goal
 
 abbrev pub invariant-loop-p : goal.invariant-loop-p

@@ -1,9 +1,8 @@
 use mathlib.Core.Path.{◌≡◌}
-use Prim.Native.Nat.{◌-◌, ◌≤◌}
 use native.Mathlib.Omega.{arith}
 use borrow.Author.Tests.{eqb-true}
 use Rattle.nominal.specs.Stretches.{Belongs}
-use Rattle.nominal.proofs.Rows.{or_none, Belong, belong_more, row_of}
+use Rattle.nominal.proofs.Rows.{or_none, belong_more, row_of}
 use Rattle.nominal.proofs.row.is_row.Goals as goal
 
 pub loop-k-init : goal.loop-k-init

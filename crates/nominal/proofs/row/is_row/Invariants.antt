@@ -1,10 +1,8 @@
 -- `nominal::row::is_row` meets its contract: where nothing is wrong so far, each byte so far belongs where it stands. Assumes nothing.
 use mathlib.Core.Path.{◌≡◌}
 use Prim.Native.Nat.{◌-◌, ◌≤◌}
-use native.Mathlib.Omega.{arith}
-use borrow.Author.Tests.{eqb-true}
 use Rattle.nominal.specs.Stretches.{Belongs}
-use Rattle.nominal.proofs.Rows.{or_none, Belong, belong_more, row_of}
+use Rattle.nominal.proofs.Rows.{Belong}
 use Rattle.nominal.proofs.row.is_row.Given as goal
 
 abbrev pub invariant-loop-k : goal.invariant-loop-k

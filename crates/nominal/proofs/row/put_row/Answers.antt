@@ -1,7 +1,6 @@
 use mathlib.Core.Path.{◌≡◌}
-use Prim.Native.Nat.{◌+◌, ◌*◌, ◌-◌, ◌≤◌, ◌<◌}
+use Prim.Native.Nat.{◌+◌, ◌<◌}
 use native.Mathlib.Omega.{arith}
-use Rattle.nominal.specs.Stretches.{Stored}
 use Rattle.nominal.proofs.Joining.{one-group, stored-none, stored_more}
 use Rattle.nominal.proofs.row.put_row.Goals as goal
 

@@ -1,9 +1,6 @@
 -- `nominal::row::put_row` meets its contract: one word more at each turn. Assumes nothing.
-use mathlib.Core.Path.{◌≡◌}
-use Prim.Native.Nat.{◌+◌, ◌*◌, ◌-◌, ◌≤◌, ◌<◌}
-use native.Mathlib.Omega.{arith}
+use Prim.Native.Nat.{◌+◌, ◌*◌, ◌-◌, ◌≤◌}
 use Rattle.nominal.specs.Stretches.{Stored}
-use Rattle.nominal.proofs.Joining.{one-group, stored-none, stored_more}
 use Rattle.nominal.proofs.row.put_row.Given as goal
 
 abbrev pub invariant-loop-k : goal.invariant-loop-k

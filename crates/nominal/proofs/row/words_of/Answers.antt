@@ -1,9 +1,9 @@
-use mathlib.Core.Path.{◌≡◌, refl, ◌∙◌}
-use Prim.Native.Nat.{◌-◌, ◌≤◌, ◌<◌}
+use mathlib.Core.Path.{refl, ◌∙◌}
+use Prim.Native.Nat.{◌<◌}
 use native.Mathlib.Omega.{arith}
 use lib.ListN.{length, length-set}
 use Rattle.nominal.proofs.Digits.{second-digit}
-use Rattle.nominal.proofs.Rows.{WordsTo, words_more}
+use Rattle.nominal.proofs.Rows.{words_more}
 use Rattle.nominal.proofs.row.words_of.Goals as goal
 
 pub loop-k-init : goal.loop-k-init

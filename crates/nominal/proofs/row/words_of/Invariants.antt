@@ -1,10 +1,8 @@
 -- `nominal::row::words_of` meets its contract: one word more at each turn, the second digit of its group's number. Assumes nothing.
-use mathlib.Core.Path.{◌≡◌, refl, ◌∙◌}
-use Prim.Native.Nat.{◌-◌, ◌≤◌, ◌<◌}
-use native.Mathlib.Omega.{arith}
-use lib.ListN.{length, length-set}
-use Rattle.nominal.proofs.Digits.{second-digit}
-use Rattle.nominal.proofs.Rows.{WordsTo, words_more}
+use mathlib.Core.Path.{◌≡◌}
+use Prim.Native.Nat.{◌-◌, ◌≤◌}
+use lib.ListN.{length}
+use Rattle.nominal.proofs.Rows.{WordsTo}
 use Rattle.nominal.proofs.row.words_of.Given as goal
 
 abbrev pub invariant-loop-k : goal.invariant-loop-k

@@ -9,4 +9,4 @@ returns-then-answer-ne-ANSWER c = wrong-length _ _ _ (λ whole. omega arith)
 pub returns : goal.returns
 returns c =
     let a = c.args in
-    put a.number a.result a.answer.now _ _ (omega arith) c.write.ensures c.write-2.ensures
+    put a.number a.res a.answer.now _ _ (omega arith) c.write.ensures c.write-2.ensures

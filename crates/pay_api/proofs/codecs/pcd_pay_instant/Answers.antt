@@ -7,10 +7,10 @@ use Rattle.pay_api.proofs.codecs.pcd_pay_instant.Goals as goal
 
 pub returns-in-Time : goal.returns-in-Time
 returns-in-Time c =
-    let e = c.d-1.given.1 in
+    let e = c.in-Time.is in
     instant-answer c.decode-d.ensures (omega (arith, ap timeRefused e)) (omega (arith, ap instant_or0 e)) c.put.ensures
 
 pub returns-in-Refused : goal.returns-in-Refused
 returns-in-Refused c =
-    let e = c.d-in-Refused-1.given.1 in
+    let e = c.in-Refused.is in
     instant-answer c.decode-d.ensures (omega (arith, ap timeRefused e)) (omega (arith, ap instant_or0 e)) c.put-in-Refused.ensures

@@ -6,14 +6,14 @@ use Rattle.pay_api.proofs.Results.{bits_or0, number-answer, has_bits}
 use Rattle.pay_api.proofs.codecs.pcd_pay_number.Goals as goal
 
 pub float_to_bits-x : goal.float_to_bits-x
-float_to_bits-x c = has_bits c.decode-d.ensures c.d-1.given.1
+float_to_bits-x c = has_bits c.decode-d.ensures c.in-Number.is
 
 pub returns-in-Number : goal.returns-in-Number
 returns-in-Number c =
-    let e = c.d-1.given.1 in
+    let e = c.in-Number.is in
     number-answer c.decode-d.ensures (omega (arith, ap numberRefused e)) (omega (arith, ap bits_or0 e)) c.put.ensures
 
 pub returns-in-Refused : goal.returns-in-Refused
 returns-in-Refused c =
-    let e = c.d-in-Refused-1.given.1 in
+    let e = c.in-Refused.is in
     number-answer c.decode-d.ensures (omega (arith, ap numberRefused e)) (omega (arith, ap bits_or0 e)) c.put-in-Refused.ensures

@@ -6,8 +6,8 @@ use Rattle.pay_api.proofs.Results.{said}
 use Rattle.pay_api.proofs.voting.put_word.Goals as goal
 
 pub returns-in-Voted : goal.returns-in-Voted
-returns-in-Voted c = said (omega arith) (omega (arith, ap word_result c.word-1.given.1)) c.put.ensures
+returns-in-Voted c = said (omega arith) (omega (arith, ap word_result c.in-Voted.is)) c.put.ensures
 
 pub returns-in-Erased : goal.returns-in-Erased
 returns-in-Erased c =
-    said (omega arith) (omega (arith, ap word_result c.enum_told-1.given.1)) c.put-in-Erased.ensures
+    said (omega arith) (omega (arith, ap word_result c.in-Erased.is)) c.put-in-Erased.ensures

@@ -9,7 +9,7 @@ use Rattle.pcd_book.proofs.Laws.{fits-as, none_kept}
 use Rattle.pcd_book.proofs.gathering.gather.Given as goal
 
 abbrev pub invariant-loop-shelf : goal.invariant-loop-shelf
-invariant-loop-shelf l = Fits (length l.initial.bodies) l.shelf × (length l.bodies ≡ length l.initial.bodies) × Kept l.year l.bodies l.shelf
+invariant-loop-shelf g l = Fits (length l.initial.bodies) l.shelf × (length l.bodies ≡ length l.initial.bodies) × Kept l.year l.bodies l.shelf
 
 abbrev pub decreases-loop-shelf : goal.decreases-loop-shelf
-decreases-loop-shelf l = 2 ^ 64 - l.shelf.frames
+decreases-loop-shelf g l = 2 ^ 64 - l.shelf.frames

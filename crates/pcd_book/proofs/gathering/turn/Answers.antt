@@ -6,25 +6,25 @@ use Rattle.pcd_book.proofs.Laws.{ended_turn, left-turn, added_turn}
 use Rattle.pcd_book.proofs.gathering.turn.Goals as goal
 
 pub returns-then-not-read : goal.returns-then-not-read
-returns-then-not-read c =
+returns-then-not-read g c =
     let read = c.next_cycle-read in
     ended_turn c.args.year c.args.bodies.now read.new.1.1.0 c.args.s _ c.requires read.auto.1.1.0
     c.ended.ensures
 
 pub returns-then-not-rises : goal.returns-then-not-rises
-returns-then-not-rises c =
+returns-then-not-rises g c =
     let read = c.next_cycle-read in
     left-turn c.args.year c.args.bodies.now read.new.1.1.0 c.args.s _ c.requires read.auto.1.1.0
     c.left_out.ensures (read.ensures.further (not-false _ c.if-not-read.false))
 
 pub returns-then-room-end-lt-CYCLE : goal.returns-then-room-end-lt-CYCLE
-returns-then-room-end-lt-CYCLE c =
+returns-then-room-end-lt-CYCLE g c =
     let read = c.next_cycle-read in
     left-turn c.args.year c.args.bodies.now read.new.1.1.0 c.args.s _ c.requires read.auto.1.1.0
     c.left_out-then-room-end-lt-CYCLE.ensures (read.ensures.further (not-false _ c.if-not-read.false))
 
 pub returns : goal.returns
-returns c =
+returns g c =
     let read = c.next_cycle-read in
     let whole = not-false _ c.if-not-read.false in
     added_turn c.args.year c.args.bodies.now read.new.1.1.0 c.args.s _ c.requires read.auto.1.1.0 _

@@ -5,7 +5,7 @@ use lib.ListN.{length}
 use Rattle.pcd_book_compare.proofs.differences.show_lines.Given as goal
 
 abbrev pub invariant-loop-k : goal.invariant-loop-k
-invariant-loop-k l = l.at ≤ length l.table
+invariant-loop-k g l = l.at ≤ length l.table
 
 abbrev pub decreases-loop-k : goal.decreases-loop-k
-decreases-loop-k l = l.n - l.k
+decreases-loop-k g l = l.n - l.k

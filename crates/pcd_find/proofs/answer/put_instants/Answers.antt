@@ -5,14 +5,8 @@ use Rattle.book_parts.proofs.Held.{entered, instant-there}
 use Rattle.pcd_find.proofs.Laws.{cycles_are, few, Put, none-put, one_more, all-put}
 use Rattle.pcd_find.proofs.answer.put_instants.Goals as goal
 
-pub cycles-n-requires : goal.cycles-n-requires
-cycles-n-requires c = tt
-
 pub loop-i-init : goal.loop-i-init
 loop-i-init c = (omega arith, none-put _ _ c.requires.1)
-
-pub instant-requires : goal.instant-requires
-instant-requires c = tt
 
 pub offset_bounds-out-i : goal.offset_bounds-out-i
 offset_bounds-out-i c =

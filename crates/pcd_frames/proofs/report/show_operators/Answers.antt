@@ -3,10 +3,10 @@ use native.Mathlib.Omega.{arith}
 use Rattle.pcd_frames.proofs.report.show_operators.Goals as goal
 
 pub loop-k-init : goal.loop-k-init
-loop-k-init c = omega arith
+loop-k-init g c = omega arith
 
 pub loop-k-smaller : goal.loop-k-smaller
-loop-k-smaller c = omega arith
+loop-k-smaller g c = omega arith
 
 pub loop-k-preserved : goal.loop-k-preserved
-loop-k-preserved c = omega arith
+loop-k-preserved g c = omega arith

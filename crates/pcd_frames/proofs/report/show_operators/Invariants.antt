@@ -4,7 +4,7 @@ use native.Mathlib.Omega.{arith}
 use Rattle.pcd_frames.proofs.report.show_operators.Given as goal
 
 abbrev pub invariant-loop-k : goal.invariant-loop-k
-invariant-loop-k l = 0 ≤ l.k
+invariant-loop-k g l = 0 ≤ l.k
 
 abbrev pub decreases-loop-k : goal.decreases-loop-k
-decreases-loop-k l = 8 - l.k
+decreases-loop-k g l = 8 - l.k

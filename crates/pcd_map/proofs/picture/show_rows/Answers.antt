@@ -5,4 +5,4 @@ use lib.ListN.{length}
 use Rattle.pcd_map.proofs.picture.show_rows.Goals as goal
 
 pub loop-row-init : goal.loop-row-init
-loop-row-init c = (omega arith, refl)
+loop-row-init g c = (omega arith, refl)

@@ -12,7 +12,10 @@ room : (s : Start) → StateRoom (state_with s.args.l s.args.frame.now)
 room s = state_room (state_with s.args.l s.args.frame.now) s.requires.frame_value
 
 pub open_byte-next-requires : goal.open_byte-next-requires
-open_byte-next-requires c = ((room (goal.at.open_byte-next-requires c).Start).in_groups, c.if-l-lt3.true)
+open_byte-next-requires c = record {
+  groups_room = (room (goal.at.open_byte-next-requires c).Start).in_groups;
+  open_bound = c.if-l-lt3.true;
+}
 
 pub returns-then-l-lt3 : goal.returns-then-l-lt3
 returns-then-l-lt3 c =
@@ -25,7 +28,10 @@ close_group-next-requires c = (room (goal.at.close_group-next-requires c).Start)
 
 pub word_step-requires : goal.word_step-requires
 word_step-requires c =
-    (((room (goal.at.word_step-requires c).Start).in_framing, (room (goal.at.word_step-requires c).Start).in_runs), c.requires.lent)
+    let held = room (goal.at.word_step-requires c).Start in record {
+      framing_room = (held.in_framing, held.in_runs);
+      lent = c.requires.lent;
+    }
 
 pub returns : goal.returns
 returns c =

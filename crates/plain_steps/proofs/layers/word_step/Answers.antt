@@ -9,21 +9,21 @@ returns-then-l c =
     word-hunted a.l a.w a.frame.now a.area.now c.if-l.true c.hunt-next.ensures
 
 pub end_frame-ended-requires : goal.end_frame-ended-requires
-end_frame-ended-requires c = (
-  c.requires.framing_room.1,
-  record {
+end_frame-ended-requires c = record {
+  runs_room = c.requires.framing_room.1;
+  lent = record {
     frame-length = simp (c.place-framed.ensures.frame_is, length-set) c.requires.lent.frame-length;
     area_length = c.requires.lent.area_length;
-  },
-)
+  };
+}
 
 pub returns-in-Nothing : goal.returns-in-Nothing
 returns-in-Nothing c =
     let a = c.args in
-    word-filled a.l a.w a.frame.now a.area.now c.if-l.false c.place-framed.ensures c.enum_told-1.given.1
+    word-filled a.l a.w a.frame.now a.area.now c.if-l.false c.place-framed.ensures c.in-Nothing.is
 
 pub returns-in-Frame : goal.returns-in-Frame
 returns-in-Frame c =
     let a = c.args in
-    word-closed a.l a.w a.frame.now a.area.now c.if-l.false c.place-framed.ensures c.closing-1.given.1
+    word-closed a.l a.w a.frame.now a.area.now c.if-l.false c.place-framed.ensures c.in-Frame.is
     c.end_frame-ended.ensures

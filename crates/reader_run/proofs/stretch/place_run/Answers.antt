@@ -6,7 +6,7 @@ use Rattle.nominal.proofs.Joining.{nominal_far, nominal_inside}
 use Rattle.order.proofs.Rooms.{state_room}
 use Rattle.reader_run.proofs.Onward.{placed-words, place-onward}
 use Rattle.reader_run.proofs.stretch.place_run.Goals as goal
-use Rattle.reader_run.proofs.stretch.place_run.Goals.{After-place-r, Start}
+use Rattle.reader_run.proofs.stretch.place_run.Goals.{Start}
 
 few : (s : Start) → s.args.l.framing.placed ≤ 127
 few s = (state_room _ s.requires.begun.order).in_framing.placed_max
@@ -19,16 +19,14 @@ last_of-requires c = c.place-r.ensures.stored.room (few (goal.at.last_of-require
 
 pub after_words-next-requires : goal.after_words-next-requires
 after_words-next-requires c =
-    let s = start (goal.at.after_words-next-requires c).After-place-r in
     let p = c.place-r.ensures.stored in
     let far = nominal_far p.stretch in
-    let inside = nominal_inside p.stretch s.pre.0.fits.inside in
-    ((state_room _ s.pre.0.order).in_groups, omega (arith, s.pre.0.fits.limit), omega (arith, p.place_is))
+    let inside = nominal_inside p.stretch c.requires.begun.fits.inside in
+    ((state_room _ c.requires.begun.order).in_groups, omega (arith, c.requires.begun.fits.limit), omega (arith, p.place_is))
 
 pub returns : goal.returns
 returns c =
-    let s = start (goal.at.returns c).After-place-r in
     let p = c.place-r.ensures.stored in
-    let words = placed-words s.pre.0 p _ _ refl (few s) c.last_of.ensures in
+    let words = placed-words c.requires.begun p _ _ refl (few (goal.at.returns c).Start) c.last_of.ensures in
     let g = c.after_words-next.ensures p.words words in
-    (rw p.place_is (place-onward s.pre.0 s.pre.1.0 p s.pre.1.1 (few s) g), rw g s.pre.1.0)
+    record { reaches = rw p.place_is (place-onward c.requires.begun c.requires.open_value.0 p c.requires.open_value.1 (few (goal.at.returns c).Start) g); open_value_2 = rw g c.requires.open_value.0 }

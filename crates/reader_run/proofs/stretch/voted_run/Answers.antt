@@ -6,7 +6,7 @@ use Rattle.voted.proofs.Joining.{decided_far, decided_inside}
 use Rattle.order.proofs.Rooms.{state_room}
 use Rattle.reader_run.proofs.VotedOnward.{placed-groups, placed-weak, voted_onward}
 use Rattle.reader_run.proofs.stretch.voted_run.Goals as goal
-use Rattle.reader_run.proofs.stretch.voted_run.Goals.{After-struct_known-1, Start}
+use Rattle.reader_run.proofs.stretch.voted_run.Goals.{Start}
 
 few : (s : Start) → s.args.l.framing.placed ≤ 127
 few s = (state_room _ s.requires.begun.order).in_framing.placed_max
@@ -19,16 +19,14 @@ overflow_sub-r-2 c = omega (arith, c.place-r.ensures.place_is)
 
 pub after_voted-next-requires : goal.after_voted-next-requires
 after_voted-next-requires c =
-    let s = start (goal.at.after_voted-next-requires c).After-struct_known-1 in
     let p = c.place-r.ensures in
     let far = decided_far p.stretch in
-    let inside = decided_inside p.stretch s.pre.0.fits.inside in
-    let limit = s.pre.0.fits.limit in
-    ((state_room _ s.pre.0.order).in_groups, omega arith, omega (arith, p.place_is), placed-weak p (omega arith))
+    let inside = decided_inside p.stretch c.requires.begun.fits.inside in
+    let limit = c.requires.begun.fits.limit in
+    ((state_room _ c.requires.begun.order).in_groups, omega arith, omega (arith, p.place_is), placed-weak p (omega arith))
 
 pub returns : goal.returns
 returns c =
-    let s = start (goal.at.returns c).After-struct_known-1 in
     let p = c.place-r.ensures in
     let g = c.after_voted-next.ensures p.groups (placed-groups p refl) in
-    (rw p.place_is (voted_onward s.pre.0 s.pre.1.0 p s.pre.1.1 (few s) g), rw g s.pre.1.0)
+    record { reaches = rw p.place_is (voted_onward c.requires.begun c.requires.open_value.0 p c.requires.open_value.1 (few (goal.at.returns c).Start) g); open_value_2 = rw g c.requires.open_value.0 }

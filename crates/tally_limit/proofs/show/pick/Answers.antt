@@ -7,11 +7,5 @@ use Rattle.tally_limit.proofs.show.pick.Goals as goal
 pub loop-i-init : goal.loop-i-init
 loop-i-init c = refl
 
-pub picked-requires : goal.picked-requires
-picked-requires c = tt
-
 pub loop-i-preserved : goal.loop-i-preserved
 loop-i-preserved c = simp length-set (omega arith)
-
-pub returns : goal.returns
-returns c = tt

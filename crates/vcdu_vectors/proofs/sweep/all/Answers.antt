@@ -2,12 +2,6 @@ use Prim.Native.Nat.{◌-◌}
 use native.Mathlib.Omega.{arith}
 use Rattle.vcdu_vectors.proofs.sweep.all.Goals as goal
 
-pub returns-then-header-ne8 : goal.returns-then-header-ne8
-returns-then-header-ne8 c = tt
-
-pub loop-way-init : goal.loop-way-init
-loop-way-init c = tt
-
 pub one-sum-requires : goal.one-sum-requires
 one-sum-requires c = omega arith
 
@@ -16,9 +10,3 @@ overflow_add-way c = omega arith
 
 pub loop-way-smaller : goal.loop-way-smaller
 loop-way-smaller c = omega arith
-
-pub loop-way-preserved : goal.loop-way-preserved
-loop-way-preserved c = tt
-
-pub returns : goal.returns
-returns c = tt

@@ -10,12 +10,6 @@ loop-i-init c = (omega arith, refl)
 pub bounds-bytes-i : goal.bounds-bytes-i
 bounds-bytes-i c = omega arith
 
-pub wide-requires : goal.wide-requires
-wide-requires c = tt
-
-pub mix-h-requires : goal.mix-h-requires
-mix-h-requires c = tt
-
 pub overflow_add-i : goal.overflow_add-i
 overflow_add-i c = omega arith
 

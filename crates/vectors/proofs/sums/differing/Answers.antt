@@ -15,12 +15,6 @@ loop-i-init c = (omega arith, omega arith, omega arith)
 pub bounds-a-i : goal.bounds-a-i
 bounds-a-i c = omega arith
 
-pub is_other-requires : goal.is_other-requires
-is_other-requires c = tt
-
-pub bit-n-requires : goal.bit-n-requires
-bit-n-requires c = tt
-
 pub overflow_add-n : goal.overflow_add-n
 overflow_add-n c = let h : c.bit-n.result ≤ 1 = rw c.bit-n.ensures (one_at_most c.is_other.result) in omega arith
 

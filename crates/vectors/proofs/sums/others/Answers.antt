@@ -1,3 +1,4 @@
+use mathlib.Core.Bool.{Bool}
 use mathlib.Core.List.{List}
 use Prim.Native.Nat.{ℕ, ◌≤◌}
 use native.Mathlib.Omega.{arith}
@@ -6,9 +7,14 @@ use Rattle.base.specs.Lists.{count_by}
 use Rattle.vectors.specs.Folds.{is_other}
 use Rattle.vectors.proofs.Folding.{one_at_most, counted_step, count-step, count-end}
 use Rattle.vectors.proofs.sums.others.Goals as goal
+use Rattle.vectors.proofs.sums.others.Goals.{After-bit-n}
 
 abbrev left : ℕ → List ℕ → ℕ → ℕ
 left b bytes i = count_by (is_other b) (drop i bytes)
+
+-- whether the byte of this turn is another one
+abbrev now-other : After-bit-n → Bool
+now-other c = is_other c.args.b (get_or c.args.bytes.now c.loop-i.i 0)
 
 pub loop-i-init : goal.loop-i-init
 loop-i-init c = (omega arith, omega arith, omega arith)
@@ -16,11 +22,8 @@ loop-i-init c = (omega arith, omega arith, omega arith)
 pub bounds-bytes-i : goal.bounds-bytes-i
 bounds-bytes-i c = omega arith
 
-pub bit-n-requires : goal.bit-n-requires
-bit-n-requires c = tt
-
 pub overflow_add-n : goal.overflow_add-n
-overflow_add-n c = let h : c.bit-n.result ≤ 1 = rw c.bit-n.ensures (one_at_most (is_other c.args.b (get_or c.args.bytes.now c.loop-i.i 0))) in omega arith
+overflow_add-n c = let h : c.bit-n.result ≤ 1 = rw c.bit-n.ensures (one_at_most (now-other c)) in omega arith
 
 pub overflow_add-i : goal.overflow_add-i
 overflow_add-i c = omega arith
@@ -33,7 +36,7 @@ loop-i-preserved c =
     let h = c.loop-i-test.true in
     let bytes = c.args.bytes.now in
     let b = c.args.b in
-    rw c.bit-n.ensures (counted_step (left b bytes) _ _ _ (is_other b (get_or bytes c.loop-i.i 0)) c.loop-i.invariant h (count-step (is_other b) bytes _ h))
+    rw c.bit-n.ensures (counted_step (left b bytes) _ _ _ (now-other c) c.loop-i.invariant h (count-step (is_other b) bytes _ h))
 
 pub returns : goal.returns
 returns c =

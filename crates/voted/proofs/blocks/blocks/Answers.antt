@@ -5,7 +5,6 @@ use native.Mathlib.Omega.{arith}
 use lib.Dec.{leb}
 use borrow.Author.Tests.{leb-true}
 use Rattle.nominal.specs.Stretches.{last_place}
-use Rattle.voted.specs.Stretches.{RunsOn}
 use Rattle.voted.proofs.blocks.blocks.Goals as goal
 
 -- places are left, and fewer where a block was whole

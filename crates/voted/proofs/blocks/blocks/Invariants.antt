@@ -1,11 +1,6 @@
 -- `voted::blocks::blocks` meets its contract: each block goes on from the run so far. Assumes nothing.
-use mathlib.Core.Path.{◌≡◌, refl}
-use mathlib.Core.Bool.{Bool, true, false, cond}
-use Prim.Native.Nat.{ℕ, ◌+◌, ◌-◌, ◌≤◌, ◌<◌}
-use native.Mathlib.Omega.{arith}
-use lib.Dec.{leb}
-use borrow.Author.Tests.{leb-true}
-use Rattle.nominal.specs.Stretches.{last_place}
+use mathlib.Core.Bool.{cond}
+use Prim.Native.Nat.{◌-◌}
 use Rattle.voted.specs.Stretches.{RunsOn}
 use Rattle.voted.proofs.blocks.blocks.Given as goal
 

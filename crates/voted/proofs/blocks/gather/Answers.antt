@@ -1,9 +1,7 @@
-use mathlib.Core.Path.{◌≡◌, ap}
-use Prim.Native.Nat.{◌+◌, ◌*◌, ◌-◌, ◌≤◌, ◌<◌}
+use mathlib.Core.Path.{ap}
+use Prim.Native.Nat.{◌<◌}
 use native.Mathlib.Omega.{arith}
-use borrow.Author.Tests.{not-false}
 use Rattle.voted.specs.Copies.{copies_at}
-use Rattle.voted.specs.Lanes.{columns, Gathered}
 use Rattle.voted.proofs.Lanes.{blank-gathered, more-gathered}
 use Rattle.voted.proofs.blocks.gather.Goals as goal
 
@@ -61,7 +59,7 @@ pub loop-at-preserved : goal.loop-at-preserved
 loop-at-preserved c =
     let l = c.loop-at in
     let p = c.args.piece.now in
-    let cell = c.is_spaced.ensures (not-false _ c.if-not-is_spaced.false) in
+    let cell = c.is_spaced.ensures c.if-not-is_spaced.false in
     let at = l.invariant.0 in
     let few : l.k < 64 = omega arith in
     (omega arith, omega arith, more-gathered l.invariant.2 _ _ _ few (rw at at cell) (ap (copies_at p) at))

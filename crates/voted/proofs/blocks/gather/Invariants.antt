@@ -1,11 +1,7 @@
 -- `voted::blocks::gather` meets its contract: one cell more at each turn, in the next lane. Assumes nothing.
-use mathlib.Core.Path.{◌≡◌, ap}
-use Prim.Native.Nat.{◌+◌, ◌*◌, ◌-◌, ◌≤◌, ◌<◌}
-use native.Mathlib.Omega.{arith}
-use borrow.Author.Tests.{not-false}
-use Rattle.voted.specs.Copies.{copies_at}
+use mathlib.Core.Path.{◌≡◌}
+use Prim.Native.Nat.{◌+◌, ◌*◌, ◌-◌, ◌≤◌}
 use Rattle.voted.specs.Lanes.{columns, Gathered}
-use Rattle.voted.proofs.Lanes.{blank-gathered, more-gathered}
 use Rattle.voted.proofs.blocks.gather.Given as goal
 
 abbrev pub invariant-loop-at : goal.invariant-loop-at

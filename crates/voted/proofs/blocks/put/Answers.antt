@@ -1,7 +1,5 @@
-use mathlib.Core.Path.{◌≡◌, sym, ◌∙◌}
-use Prim.Native.Nat.{◌-◌, ◌≤◌}
+use mathlib.Core.Path.{◌≡◌, sym}
 use native.Mathlib.Omega.{arith}
-use Rattle.voted.specs.Lanes.{copied}
 use Rattle.voted.proofs.Lanes.{copied_none, copied_more}
 use Rattle.voted.proofs.blocks.put.Goals as goal
 

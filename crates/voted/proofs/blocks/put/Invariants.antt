@@ -1,9 +1,7 @@
 -- `voted::blocks::put` meets its contract: one word more at each turn. Assumes nothing.
-use mathlib.Core.Path.{◌≡◌, sym, ◌∙◌}
+use mathlib.Core.Path.{◌≡◌}
 use Prim.Native.Nat.{◌-◌, ◌≤◌}
-use native.Mathlib.Omega.{arith}
 use Rattle.voted.specs.Lanes.{copied}
-use Rattle.voted.proofs.Lanes.{copied_none, copied_more}
 use Rattle.voted.proofs.blocks.put.Given as goal
 
 abbrev pub invariant-loop-k : goal.invariant-loop-k

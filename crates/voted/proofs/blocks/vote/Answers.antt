@@ -1,11 +1,11 @@
-use mathlib.Core.Path.{◌≡◌, ◌∙◌}
-use Prim.Native.Nat.{◌*◌, ◌-◌, ◌≤◌, ◌<◌}
+use mathlib.Core.Path.{◌≡◌}
+use Prim.Native.Nat.{◌*◌, ◌≤◌, ◌<◌}
 use native.Mathlib.Omega.{arith}
 use lib.Dec.{eqb}
 use Rattle.voted.specs.Copies.{Copies}
 use Rattle.voted.specs.Lanes.{Columns, columns, lane, lanes}
 use Rattle.voted.proofs.Agreeing.{one-few}
-use Rattle.voted.proofs.Lanes.{total-sides, Voting, voting_none, voting_more}
+use Rattle.voted.proofs.Lanes.{total-sides, voting_none, voting_more}
 use Rattle.voted.proofs.blocks.vote.Goals as goal
 use Rattle.voted.proofs.blocks.vote.Goals.{After-by_masks, Start}
 

@@ -1,12 +1,7 @@
 -- `voted::blocks::vote` meets its contract: one lane more at each turn. Assumes nothing.
-use mathlib.Core.Path.{◌≡◌, ◌∙◌}
-use Prim.Native.Nat.{◌*◌, ◌-◌, ◌≤◌, ◌<◌}
-use native.Mathlib.Omega.{arith}
-use lib.Dec.{eqb}
-use Rattle.voted.specs.Copies.{Copies}
-use Rattle.voted.specs.Lanes.{Columns, columns, lane, lanes}
-use Rattle.voted.proofs.Agreeing.{one-few}
-use Rattle.voted.proofs.Lanes.{total-sides, Voting, voting_none, voting_more}
+use Prim.Native.Nat.{◌*◌, ◌-◌}
+use Rattle.voted.specs.Lanes.{columns}
+use Rattle.voted.proofs.Lanes.{Voting}
 use Rattle.voted.proofs.blocks.vote.Given as goal
 
 abbrev pub invariant-loop-k : goal.invariant-loop-k

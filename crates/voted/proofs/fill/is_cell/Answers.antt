@@ -1,9 +1,8 @@
 -- `voted::fill::is_cell` meets its contract. Assumes nothing.
 use mathlib.Core.Path.{sym}
 use mathlib.Core.Bool.{true≢false}
-use borrow.Author.Tests.{eqb-true, not-false}
+use borrow.Author.Tests.{eqb-true}
 use Rattle.voted.proofs.fill.is_cell.Goals as goal
-use Rattle.voted.proofs.fill.is_cell.Goals.{Else-not-is_spaced, Else-piece-at}
 
 pub returns-then-starts-at : goal.returns-then-starts-at
 returns-then-starts-at c = λ e. absurd (true≢false (sym e))
@@ -16,4 +15,4 @@ returns-then-piece-at c = λ e. absurd (true≢false (sym e))
 
 pub returns : goal.returns
 returns c =
-    λ e. record { (goal.at.returns c).Else-not-is_spaced = c.is_spaced.ensures (not-false _ c.if-not-is_spaced.false); (goal.at.returns c).Else-piece-at = c.if-piece-at.false; third = eqb-true _ _ e }
+    λ e. record { spaced = c.is_spaced.ensures c.if-not-is_spaced.false; second = c.if-piece-at.false; third = eqb-true _ _ e }

@@ -2,7 +2,7 @@
 use mathlib.Core.Path.{sym}
 use mathlib.Core.Bool.{true≢false}
 use native.Mathlib.Omega.{arith}
-use borrow.Author.Tests.{eqb-true, not-false}
+use borrow.Author.Tests.{eqb-true}
 use Rattle.voted.proofs.fill.is_spaced.Goals as goal
 
 pub returns-then-piece-at-ne-SYNC : goal.returns-then-piece-at-ne-SYNC
@@ -15,6 +15,6 @@ pub returns : goal.returns
 returns c =
     λ q. record {
       sync = record { inside = omega (arith, c.requires); is = c.if-piece-at-ne-SYNC.false };
-      four = c.are_four.ensures (not-false _ c.if-not-are_four.false);
+      four = c.are_four.ensures c.if-not-are_four.false;
       fifth = record { inside = c.requires; is = eqb-true _ _ q };
     }

@@ -1,8 +1,5 @@
-use mathlib.Core.Path.{◌≡◌}
-use Prim.Native.Nat.{◌*◌, ◌-◌, ◌≤◌}
 use native.Mathlib.Omega.{arith}
-use borrow.Author.Tests.{not-false}
-use Rattle.voted.specs.Stretches.{Alike, SeeksOn, most_groups}
+use Rattle.voted.specs.Stretches.{Alike}
 use Rattle.voted.proofs.Joining.{going_cell}
 use Rattle.voted.proofs.hunting.alike.Goals as goal
 use Rattle.voted.proofs.hunting.alike.Goals.{Else-not-is_cell}
@@ -10,7 +7,7 @@ use Rattle.voted.proofs.hunting.alike.Goals.{Else-not-is_cell}
 -- a cell that is looked at
 module _ (c : Else-not-is_cell) where
   cell : Alike c.args.piece.now c.loop-next.next.at
-  cell = c.is_cell.ensures (not-false _ c.if-not-is_cell.false)
+  cell = c.is_cell.ensures c.if-not-is_cell.false
 
 pub loop-next-init : goal.loop-next-init
 loop-next-init c = (λ i g. g, omega arith, c.requires)
@@ -26,8 +23,7 @@ bounds-piece-at c = omega (arith, (cell (goal.at.bounds-piece-at c).Else-not-is_
 
 pub returns-then-piece-at : goal.returns-then-piece-at
 returns-then-piece-at c =
-    let last = turn (goal.at.returns-then-piece-at c).Else-not-is_cell in
-    (last.loop.inv.0, last.loop.inv.1)
+    (c.loop-next.invariant.0, c.loop-next.invariant.1)
 
 pub overflow_add-next : goal.overflow_add-next
 overflow_add-next c = omega (arith, (cell (goal.at.overflow_add-next c).Else-not-is_cell).spaced.fifth.inside)
@@ -37,8 +33,7 @@ overflow_add-next-in-loop-next c = omega arith
 
 pub overflow_add-next-in-loop-next-2 : goal.overflow_add-next-in-loop-next-2
 overflow_add-next-in-loop-next-2 c =
-    let last = turn (goal.at.overflow_add-next-in-loop-next-2 c).Else-not-is_cell in
-    omega (arith, last.loop.inv.2)
+    omega (arith, c.loop-next.invariant.2)
 
 pub loop-next-smaller : goal.loop-next-smaller
 loop-next-smaller c = omega arith

@@ -1,10 +1,6 @@
 -- `voted::hunting::alike` meets its contract: the run so far goes on by one cell more at each turn. Assumes nothing.
-use mathlib.Core.Path.{◌≡◌}
 use Prim.Native.Nat.{◌*◌, ◌-◌, ◌≤◌}
-use native.Mathlib.Omega.{arith}
-use borrow.Author.Tests.{not-false}
-use Rattle.voted.specs.Stretches.{Alike, SeeksOn, most_groups}
-use Rattle.voted.proofs.Joining.{going_cell}
+use Rattle.voted.specs.Stretches.{SeeksOn, most_groups}
 use Rattle.voted.proofs.hunting.alike.Given as goal
 
 abbrev pub invariant-loop-next : goal.invariant-loop-next

@@ -1,10 +1,9 @@
 use mathlib.Core.Path.{◌≡◌, sym, ◌∙◌}
 use mathlib.Core.List.{List}
-use Prim.Native.Nat.{ℕ, ◌+◌, ◌-◌, ◌≤◌, ◌<◌}
+use Prim.Native.Nat.{ℕ, ◌+◌, ◌≤◌, ◌<◌}
 use native.Mathlib.Omega.{arith}
 use lib.ListN.{length}
-use Rattle.base.specs.Format.{SYNC, sync_word}
-use Rattle.quiet.specs.Quiet.{Byte}
+use Rattle.base.specs.Format.{sync_word}
 use Rattle.quiet.proofs.Joining.{quiet_far}
 use Rattle.voted.specs.Copies.{copies_at, IsVoted, word_of}
 use Rattle.voted.specs.declared.hunting.Hunt.{Hunt}
@@ -14,7 +13,7 @@ use Rattle.voted.proofs.Joining.{hunt, decided_far, past_quiet, past_moves, grou
 use Rattle.voted.proofs.Joining.{going_none, going_quiet, going_on, sought}
 use Rattle.voted.proofs.Joining.{stops_short, stops_split, stops_left, stops_first}
 use Rattle.voted.proofs.hunting.other_groups.Goals as goal
-use Rattle.voted.proofs.hunting.other_groups.Goals.{After-skip-skipped, Else-seen}
+use Rattle.voted.proofs.hunting.other_groups.Goals.{Else-seen}
 
 -- a group that is taken: its copies, two of which agree
 module _ (c : Else-seen) where
@@ -25,13 +24,13 @@ module _ (c : Else-seen) where
   at = c.loop-next.next.at
 
   whole : at + 3 < length piece
-  whole = omega (arith, c.loop-next-test.taken, c.starts-end.ensures)
+  whole = omega (arith, c.loop-next-test.true, c.starts-end.ensures)
 
   here : Group piece at (copies_at piece at)
-  here = group_at record { inside = omega (arith, whole); is = c.if-piece-at-ne-SYNC.left } whole
+  here = group_at record { inside = omega (arith, whole); is = c.if-piece-at-ne-SYNC.false } whole
 
   voted : IsVoted (copies_at piece at)
-  voted = voted_of (copies_at piece at) (λ e. c.if-seen-eq0.left (c.see-seen.ensures.agree_is ∙ e))
+  voted = voted_of (copies_at piece at) (λ e. c.if-seen-eq0.false (c.see-seen.ensures.agree_is ∙ e))
 
   -- the run with this group
   abbrev more : Hunt
@@ -43,12 +42,9 @@ module _ (c : Else-seen) where
   one_more : Going piece c.args.from more
   one_more =
       let told = c.see-seen.ensures in
-      let few = c.if-next-ge-MOST.left in
+      let few = c.if-next-ge-MOST.false in
       let unlike : word_of (copies_at piece at) ≡ sync_word 0 → ⊥ = λ e. omega (arith, c.if-seen.false, told.word-is voted, e) in
       going_on c.loop-next.invariant (omega (arith, few)) here voted unlike told.between told.agree_is
-
--- a turn in which what is no SYNC is skipped
-module _ (c : After-skip-skipped) where
 
 pub starts-end-requires : goal.starts-end-requires
 starts-end-requires c = omega arith
@@ -60,9 +56,7 @@ pub bounds-piece-at : goal.bounds-piece-at
 bounds-piece-at c = omega arith
 
 pub overflow_add-next : goal.overflow_add-next
-overflow_add-next c =
-    let turn = skipping (goal.at.overflow_add-next c).After-skip-skipped in
-    omega (arith, quiet_far c.skip-skipped.ensures.quiet, turn.loop.inv.few_stray)
+overflow_add-next c = omega (arith, quiet_far c.skip-skipped.ensures.quiet, c.loop-next.invariant.few_stray)
 
 pub loop-next-smaller-then-piece-at-ne-SYNC : goal.loop-next-smaller-then-piece-at-ne-SYNC
 loop-next-smaller-then-piece-at-ne-SYNC c =
@@ -71,8 +65,7 @@ loop-next-smaller-then-piece-at-ne-SYNC c =
 
 pub loop-next-preserved-then-piece-at-ne-SYNC : goal.loop-next-preserved-then-piece-at-ne-SYNC
 loop-next-preserved-then-piece-at-ne-SYNC c =
-    let turn = skipping (goal.at.loop-next-preserved-then-piece-at-ne-SYNC c).After-skip-skipped in
-    going_quiet turn.loop.inv (past_quiet c.skip-skipped.ensures.quiet)
+    going_quiet c.loop-next.invariant (past_quiet c.skip-skipped.ensures.quiet)
 
 pub returns-then-next-ge-MOST : goal.returns-then-next-ge-MOST
 returns-then-next-ge-MOST c =
@@ -93,12 +86,16 @@ returns-then-seen c =
     sought c.loop-next.invariant (stops_first c.if-piece-at-ne-SYNC.false (told.word-is voted) (omega (arith, c.if-seen.true)))
 
 pub overflow_add-more : goal.overflow_add-more
-overflow_add-more c =
-    let going = c.loop-next.invariant in
-    omega (arith, c.see-seen.ensures.agree_is, agreement-few (copies_at (piece (goal.at.overflow_add-more c).Else-seen) (at (goal.at.overflow_add-more c).Else-seen)), going.few, going.most)
+overflow_add-more c = omega (arith, c.loop-next.invariant.most)
 
 pub overflow_add-more-else-piece-at-ne-SYNC : goal.overflow_add-more-else-piece-at-ne-SYNC
-overflow_add-more-else-piece-at-ne-SYNC c = omega (arith, decided_far c.see-seen.ensures.between, c.loop-next.invariant.few_stray)
+overflow_add-more-else-piece-at-ne-SYNC c =
+    let going = c.loop-next.invariant in
+    let e = (goal.at.overflow_add-more-else-piece-at-ne-SYNC c).Else-seen in
+    omega (arith, c.see-seen.ensures.agree_is, agreement-few (copies_at (piece e) (at e)), going.few, going.most)
+
+pub overflow_add-more-else-piece-at-ne-SYNC-2 : goal.overflow_add-more-else-piece-at-ne-SYNC-2
+overflow_add-more-else-piece-at-ne-SYNC-2 c = omega (arith, decided_far c.see-seen.ensures.between, c.loop-next.invariant.few_stray)
 
 pub alike-next-requires : goal.alike-next-requires
 alike-next-requires c = (one_more (goal.at.alike-next-requires c).Else-seen).few

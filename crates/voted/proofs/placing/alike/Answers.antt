@@ -1,8 +1,5 @@
-use Prim.Native.Nat.{◌-◌, ◌≤◌}
 use native.Mathlib.Omega.{arith}
-use borrow.Author.Tests.{not-false}
-use Rattle.nominal.specs.Stretches.{last_place}
-use Rattle.voted.specs.Stretches.{Alike, RunsOn}
+use Rattle.voted.specs.Stretches.{Alike}
 use Rattle.voted.proofs.Joining.{kept-cell}
 use Rattle.voted.proofs.placing.alike.Goals as goal
 use Rattle.voted.proofs.placing.alike.Goals.{Else-not-is_cell}
@@ -10,7 +7,7 @@ use Rattle.voted.proofs.placing.alike.Goals.{Else-not-is_cell}
 -- a cell that is taken
 module _ (c : Else-not-is_cell) where
   cell : Alike c.args.piece.now c.loop-next.next.at
-  cell = c.is_cell.ensures (not-false _ c.if-not-is_cell.false)
+  cell = c.is_cell.ensures c.if-not-is_cell.false
 
 pub loop-next-init : goal.loop-next-init
 loop-next-init c = (record { kept = λ i q f k. k; has_room = c.requires }, omega arith)

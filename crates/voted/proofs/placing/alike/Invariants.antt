@@ -1,10 +1,7 @@
 -- `voted::placing::alike` meets its contract: the run so far is kept by one cell more at each turn. Assumes nothing.
 use Prim.Native.Nat.{◌-◌, ◌≤◌}
-use native.Mathlib.Omega.{arith}
-use borrow.Author.Tests.{not-false}
 use Rattle.nominal.specs.Stretches.{last_place}
-use Rattle.voted.specs.Stretches.{Alike, RunsOn}
-use Rattle.voted.proofs.Joining.{kept-cell}
+use Rattle.voted.specs.Stretches.{RunsOn}
 use Rattle.voted.proofs.placing.alike.Given as goal
 
 abbrev pub invariant-loop-next : goal.invariant-loop-next

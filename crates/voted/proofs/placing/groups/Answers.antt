@@ -1,10 +1,8 @@
 use mathlib.Core.Path.{sym, ◌∙◌}
 use mathlib.Core.List.{List}
-use Prim.Native.Nat.{ℕ, ◌+◌, ◌-◌, ◌≤◌}
+use Prim.Native.Nat.{ℕ, ◌+◌, ◌≤◌}
 use native.Mathlib.Omega.{arith}
-use lib.ListN.{length, set}
-use Rattle.base.specs.Format.{SYNC}
-use Rattle.quiet.specs.Quiet.{Byte}
+use lib.ListN.{set}
 use Rattle.quiet.proofs.Joining.{quiet_far}
 use Rattle.voted.specs.Copies.{copies_at, IsVoted}
 use Rattle.voted.specs.declared.placing.Run.{Run}
@@ -13,7 +11,7 @@ use Rattle.voted.proofs.Agreeing.{agreement-few, voted_of}
 use Rattle.voted.proofs.Joining.{run, decided_far, past_quiet, past_moves, group_at, kept-quiet, kept-group, runs-join}
 use Rattle.voted.proofs.Joining.{stops_short, stops_split, stops_left}
 use Rattle.voted.proofs.placing.groups.Goals as goal
-use Rattle.voted.proofs.placing.groups.Goals.{After-skip-skipped, Else-seen-eq0}
+use Rattle.voted.proofs.placing.groups.Goals.{Else-seen-eq0}
 
 -- a group that is taken: its copies, two of which agree
 module _ (c : Else-seen-eq0) where
@@ -24,7 +22,7 @@ module _ (c : Else-seen-eq0) where
   at = c.loop-next.next.at
 
   here : Group piece at (copies_at piece at)
-  here = group_at record { inside = omega arith; is = c.if-piece-at-ne-SYNC.left } (omega arith)
+  here = group_at record { inside = omega arith; is = c.if-piece-at-ne-SYNC.false } (omega arith)
 
   voted : IsVoted (copies_at piece at)
   voted = voted_of (copies_at piece at) (λ e. c.if-seen-eq0.false (c.see-seen.ensures.agree_is ∙ e))
@@ -45,14 +43,11 @@ module _ (c : Else-seen-eq0) where
       record {
         kept = λ i q f b. kept-group (went.kept i q f b) here voted told.between (told.word-is voted) told.agree_is;
         has_room = record {
-          room = omega (arith, c.if-p-ge-LAST_PLACE.left);
+          room = omega (arith, c.if-p-ge-LAST_PLACE.false);
           few_stray = omega (arith, decided_far told.between, room.few_stray);
           few = omega (arith, told.agree_is, agreement-few (copies_at piece at), room.few);
         };
       }
-
--- a turn in which what is no SYNC is skipped
-module _ (c : After-skip-skipped) where
 
 pub starts-end-requires : goal.starts-end-requires
 starts-end-requires c = omega arith
@@ -64,9 +59,7 @@ pub bounds-piece-at : goal.bounds-piece-at
 bounds-piece-at c = omega arith
 
 pub overflow_add-next : goal.overflow_add-next
-overflow_add-next c =
-    let turn = skipping (goal.at.overflow_add-next c).After-skip-skipped in
-    omega (arith, quiet_far c.skip-skipped.ensures.quiet, turn.loop.inv.has_room.few_stray)
+overflow_add-next c = omega (arith, quiet_far c.skip-skipped.ensures.quiet, c.loop-next.invariant.has_room.few_stray)
 
 pub loop-next-smaller-then-piece-at-ne-SYNC : goal.loop-next-smaller-then-piece-at-ne-SYNC
 loop-next-smaller-then-piece-at-ne-SYNC c =
@@ -75,8 +68,7 @@ loop-next-smaller-then-piece-at-ne-SYNC c =
 
 pub loop-next-preserved-then-piece-at-ne-SYNC : goal.loop-next-preserved-then-piece-at-ne-SYNC
 loop-next-preserved-then-piece-at-ne-SYNC c =
-    let turn = skipping (goal.at.loop-next-preserved-then-piece-at-ne-SYNC c).After-skip-skipped in
-    let went = turn.loop.inv in
+    let went = c.loop-next.invariant in
     let quiet = c.skip-skipped.ensures.quiet in
     record {
       kept = λ i q f b. kept-quiet (went.kept i q f b) (past_quiet quiet);
@@ -102,7 +94,15 @@ pub bounds-frame-p : goal.bounds-frame-p
 bounds-frame-p c = omega arith
 
 pub overflow_add-more : goal.overflow_add-more
-overflow_add-more c =
+overflow_add-more c = omega arith
+
+pub overflow_add-more-else-piece-at-ne-SYNC : goal.overflow_add-more-else-piece-at-ne-SYNC
+overflow_add-more-else-piece-at-ne-SYNC c =
+    let room = c.loop-next.invariant.has_room in
+    omega (arith, c.see-seen.ensures.agree_is, agreement-few (copies_at c.args.piece.now c.loop-next.next.at), room.few, room.room)
+
+pub overflow_add-more-else-piece-at-ne-SYNC-2 : goal.overflow_add-more-else-piece-at-ne-SYNC-2
+overflow_add-more-else-piece-at-ne-SYNC-2 c =
     omega (arith, decided_far c.see-seen.ensures.between, c.loop-next.invariant.has_room.few_stray)
 
 pub alike-next-requires : goal.alike-next-requires

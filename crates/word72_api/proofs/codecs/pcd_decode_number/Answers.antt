@@ -4,7 +4,7 @@ use Rattle.word72_api.proofs.Answers.{number-crossed}
 use Rattle.word72_api.proofs.codecs.pcd_decode_number.Goals as goal
 
 pub returns-in-Number : goal.returns-in-Number
-returns-in-Number c = number-crossed _ _ (Number _) _ c.decode-d.ensures c.d-1.given.1
+returns-in-Number c = number-crossed _ _ (Number _) _ c.decode-d.ensures c.in-Number.is
 
 pub returns-in-Refused : goal.returns-in-Refused
-returns-in-Refused c = number-crossed _ _ (Refused _) _ c.decode-d.ensures c.d-in-Refused-1.given.1
+returns-in-Refused c = number-crossed _ _ (Refused _) _ c.decode-d.ensures c.in-Refused.is

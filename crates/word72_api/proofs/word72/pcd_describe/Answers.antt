@@ -4,7 +4,7 @@ use Rattle.word72_api.proofs.word72.pcd_describe.Goals as goal
 
 pub returns-in-Found : goal.returns-in-Found
 returns-in-Found c =
-    rw c.form_number-form.ensures (describe_crossed _ _ _ _ _ c.describe.ensures c.i-1.given.1)
+    rw c.form_number-form.ensures (describe_crossed _ _ _ _ _ c.describe.ensures c.in-Found.is)
 
 pub returns-in-Refused : goal.returns-in-Refused
-returns-in-Refused c = describe_crossed _ _ _ _ _ c.describe.ensures c.number-1.given.1
+returns-in-Refused c = describe_crossed _ _ _ _ _ c.describe.ensures c.in-Refused.is

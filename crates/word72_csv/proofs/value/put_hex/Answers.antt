@@ -9,17 +9,11 @@ use Rattle.word72_csv.specs.Values.{hex_text}
 use Rattle.word72_csv.proofs.Laws.{hex_none, hex_one_more}
 use Rattle.word72_csv.proofs.value.put_hex.Goals as goal
 
-pub put-end-requires : goal.put-end-requires
-put-end-requires c = tt
-
 pub loop-i-init : goal.loop-i-init
 loop-i-init c = (omega arith, hex_none c.put-end.ensures.counts c.args.bytes.now)
 
 pub bounds-bytes-i : goal.bounds-bytes-i
 bounds-bytes-i c = omega arith
-
-pub put_hex_byte-end-requires : goal.put_hex_byte-end-requires
-put_hex_byte-end-requires c = tt
 
 pub overflow_add-i : goal.overflow_add-i
 overflow_add-i c = omega arith

@@ -12,25 +12,13 @@ stepped answered =
     let returned = copied.before.before in
     returned.before
 
-pub fresh-r-requires : goal.fresh-r-requires
-fresh-r-requires c = tt
-
 pub loop-at-init : goal.loop-at-init
 loop-at-init c = refl
-
-pub step-s-requires : goal.step-s-requires
-step-s-requires c = tt
-
-pub answered-r-requires : goal.answered-r-requires
-answered-r-requires c = tt
 
 pub shape_of-area-then-a-ne0 : goal.shape_of-area-then-a-ne0
 shape_of-area-then-a-ne0 c =
     let w = stepped (goal.at.shape_of-area-then-a-ne0 c).After-answered-r in
     w.step.kept.1.1.1.1.0 ∙ (turn w).before.loop.inv
-
-pub returns-then-a-ne0 : goal.returns-then-a-ne0
-returns-then-a-ne0 c = tt
 
 pub loop-at-smaller : goal.loop-at-smaller
 loop-at-smaller c =
@@ -44,6 +32,3 @@ loop-at-preserved c =
 
 pub shape_of-area : goal.shape_of-area
 shape_of-area c = c.loop-at.invariant
-
-pub returns : goal.returns
-returns c = tt

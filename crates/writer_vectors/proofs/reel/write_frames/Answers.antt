@@ -44,9 +44,6 @@ slice_bounds-write_frame-start-in-loop-i c = omega arith
 pub slice_bounds-write_frame-end-in-loop-i : goal.slice_bounds-write_frame-end-in-loop-i
 slice_bounds-write_frame-end-in-loop-i c = omega arith
 
-pub write_frame-at-requires : goal.write_frame-at-requires
-write_frame-at-requires c = tt
-
 pub overflow_add-at : goal.overflow_add-at
 overflow_add-at c = omega (arith, within c, c.well_formed.1.1.1.0.0, c.loop-i.invariant.2)
 

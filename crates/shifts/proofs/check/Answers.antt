@@ -1,0 +1,12 @@
+use Prim.Native.Nat.{◌-◌, ◌≤◌}
+use native.Mathlib.Omega.{arith}
+use Rattle.shifts.proofs.check.Goals as goal
+
+pub loop-k-init : goal.loop-k-init
+loop-k-init g c = omega arith
+
+pub loop-k-smaller : goal.loop-k-smaller
+loop-k-smaller g c = omega arith
+
+pub loop-k-preserved : goal.loop-k-preserved
+loop-k-preserved g c = omega arith

@@ -1,0 +1,17 @@
+use native.Mathlib.Omega.{arith}
+use Rattle.vectors.proofs.print.put_bytes.Goals as goal
+
+pub loop-i-init : goal.loop-i-init
+loop-i-init g c = omega arith
+
+pub bounds-bytes-i : goal.bounds-bytes-i
+bounds-bytes-i g c = omega arith
+
+pub overflow_add-i : goal.overflow_add-i
+overflow_add-i g c = omega arith
+
+pub loop-i-smaller : goal.loop-i-smaller
+loop-i-smaller g c = omega arith
+
+pub loop-i-preserved : goal.loop-i-preserved
+loop-i-preserved g c = omega arith
