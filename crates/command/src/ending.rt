@@ -49,8 +49,8 @@ fn tell_by_name<R: Files>(rt: &R, number: u8, line: &[u8]) -> io::Result<()> {
     file.write_all(line)
 }
 
-// Whether the descriptor is open for writing. Line 1 of what the system tells of it ends in the last
-// octal digit of its flags, whose two low bits are 0 where it is open for reading alone.
+// Whether the descriptor is open for writing. Line 1 of what the system tells of it ends in the
+// last octal digit of its flags, whose two low bits are 0 where it is open for reading alone.
 fn is_for_writing<R: Files>(rt: &R, number: u8) -> io::Result<bool> {
     let name = InlineText::<32>::of(format_args!("/proc/self/fdinfo/{number}"));
     let mut file = File::open(rt, name.as_str())?;

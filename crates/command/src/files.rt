@@ -13,7 +13,8 @@ pub struct Filled {
     pub failed: Option<io::Error>,
 }
 
-// Opens a file to read it; a line says where it cannot be opened. Names are text for the library.
+// Opens a file to read it; a line says where it cannot be opened. The library opens a file by text
+// alone, so a name that is no UTF-8 text cannot be opened.
 pub fn open<R: Files + ErrorOutput>(rt: &R, program: &[u8], path: &[u8]) -> Option<R::File> {
     match open_named(rt, path) {
         Ok(file) => Some(file),

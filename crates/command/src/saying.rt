@@ -13,8 +13,8 @@ const LINE: usize = 4608;
 
 const WORDS: usize = 256;
 
-// Standard error as `Print` has standard output: `Eprint` takes text alone, and what an argument names
-// need not be text.
+// Standard error as `Print` has standard output: `Eprint` takes text alone, and what an argument
+// names need not be text.
 pub trait ErrorOutput {
     type Stream: Print + IsTerminal + Drop;
 

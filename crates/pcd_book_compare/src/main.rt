@@ -18,7 +18,8 @@ fn main(rt: HostRuntime) {
     command::end(&rt, status);
 }
 
-// A book: its file where that could be opened, the room that it needs, and how much of its header there is.
+// A book: its file where that could be opened, the room that it needs, and how much of its header
+// there is.
 #[derive(Drop)]
 struct Opened<F> {
     file: Option<F>,

@@ -60,9 +60,9 @@ pub fn change_duty(reel: Reel, operator: u64) -> Reel
     r
 }
 
-// What comes next; of the reel no byte at `cut` or beyond is taken. The same source, buffer and area are lent each time: at first
-// nothing is open. Lines on standard error begin with the
-// name of the program.
+// What comes next; of the reel no byte at `cut` or beyond is taken. The same source, buffer and area
+// are lent each time, at first a source of which nothing is open. Lines on standard error begin with
+// the name of the program.
 pub fn advance<R: Env + Files + Input + ErrorOutput>(
     rt: &R,
     program: &[u8],
