@@ -1,7 +1,7 @@
-use mathlib.Core.Path.{◌≡◌, refl, sym}
+use mathlib.Core.Path.{refl, sym}
 use Prim.Native.Nat.{ℕ}
 use native.Mathlib.Omega.{arith}
-use lib.ListN.{length, length-replicate}
+use lib.ListN.{length-replicate}
 use Rattle.pcd_map.proofs.read_all.Goals as goal
 
 pub slice_bounds-area-end : goal.slice_bounds-area-end
@@ -13,9 +13,9 @@ loop-turns-init g c = refl
 pub shape_of-cells-then-not-s : goal.shape_of-cells-then-not-s
 shape_of-cells-then-not-s g c =
     let looped = c.loop-turns in
-    omega (arith, c.turn-s.type-inv, looped.invariant)
+    omega (arith, c.turn-s.auto.cells, looped.invariant)
 
 pub loop-turns-preserved : goal.loop-turns-preserved
 loop-turns-preserved g c =
     let looped = c.loop-turns in
-    omega (arith, c.turn-s.type-inv, looped.invariant)
+    omega (arith, c.turn-s.auto.cells, looped.invariant)

@@ -1,8 +1,5 @@
-use mathlib.Core.Path.{◌≡◌, refl, ◌∙◌}
-use Prim.Native.Nat.{◌-◌, ◌≤◌}
+use mathlib.Core.Path.{refl}
 use native.Mathlib.Omega.{arith}
-use lib.ListN.{length}
-use Rattle.io.specs.Counts.{IsPrefixLen}
 use Rattle.command.proofs.TextLaws.{counted}
 use Rattle.pcd_map.proofs.picture.put_row.Goals as goal
 

@@ -1,10 +1,8 @@
 -- `pcd_map::picture::put_row` meets its contract: each run goes on behind the one before, and the text is within its room. Assumes nothing.
-use mathlib.Core.Path.{◌≡◌, refl, ◌∙◌}
+use mathlib.Core.Path.{◌≡◌}
 use Prim.Native.Nat.{◌-◌, ◌≤◌}
-use native.Mathlib.Omega.{arith}
 use lib.ListN.{length}
 use Rattle.io.specs.Counts.{IsPrefixLen}
-use Rattle.command.proofs.TextLaws.{counted}
 use Rattle.pcd_map.proofs.picture.put_row.Given as goal
 
 abbrev pub invariant-loop-i : goal.invariant-loop-i

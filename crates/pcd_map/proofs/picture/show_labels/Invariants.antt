@@ -1,7 +1,6 @@
 -- `pcd_map::picture::show_labels` ends: a row comes nearer to the last one. Assumes nothing.
-use mathlib.Core.Path.{◌≡◌, refl}
+use mathlib.Core.Path.{◌≡◌}
 use Prim.Native.Nat.{◌-◌, ◌<◌}
-use native.Mathlib.Omega.{arith}
 use lib.ListN.{length}
 use Rattle.pcd_map.proofs.picture.show_labels.Given as goal
 
