@@ -2,7 +2,7 @@
 use mathlib.Core.Path.{◌≡◌, refl, sym, ap, ◌∙◌}
 use mathlib.Core.Bool.{Bool, true, false, not}
 use mathlib.Core.List.{List, []}
-use Prim.Native.Nat.{ℕ, ◌+◌, ◌-◌, ◌*◌, ◌/◌, ◌%◌, ◌≤◌, ◌<◌}
+use Prim.Native.Nat.{ℕ, ◌-◌, ◌*◌, ◌/◌, ◌%◌, ◌≤◌, ◌<◌}
 use native.Mathlib.Nat.{mul-mod_right, mul-div_cancel_left}
 use native.Mathlib.Omega.{arith}
 use lib.Dec.{ltb}
@@ -18,7 +18,6 @@ use Rattle.base.proofs.Rows.{rows-length, rows_at}
 use Rattle.book.specs.Faults.{Contents, contents_of, bad_body, bad_instant, bad_offset, falls, is_sized}
 use Rattle.book.specs.Layout.{book_length}
 use Rattle.book_writer.specs.Writing.{bodies_in, write_lines, write_refusal}
-use Rattle.cycle.specs.Cycle.{is_cycle, instant_of}
 use Rattle.time_code.specs.Calendar.{in_span}
 use Rattle.book_shelf.specs.declared.Shelf.{Shelf}
 use Rattle.pcd_book.specs.Shelves.{Kept, GatherPromise, Bound, Writable, room_for}

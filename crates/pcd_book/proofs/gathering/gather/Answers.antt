@@ -1,9 +1,6 @@
-use mathlib.Core.Path.{◌≡◌, refl, sym, ◌∙◌}
-use Prim.Native.Nat.{◌-◌, ◌^◌}
+use mathlib.Core.Path.{refl, sym}
 use native.Mathlib.Omega.{arith}
 use borrow.Author.Tests.{not-false}
-use lib.ListN.{length}
-use Rattle.pcd_book.specs.Shelves.{Fits, Kept}
 use Rattle.pcd_book.proofs.Laws.{fits-as, none_kept}
 use borrow.Author.Rules.{rules}
 use Rattle.pcd_book.proofs.gathering.gather.Goals as goal

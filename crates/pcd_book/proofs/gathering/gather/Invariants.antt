@@ -1,11 +1,8 @@
 -- `pcd_book::gathering::gather` meets its contract: each turn that goes on has read more frames. Assumes nothing.
-use mathlib.Core.Path.{◌≡◌, refl, sym, ◌∙◌}
+use mathlib.Core.Path.{◌≡◌}
 use Prim.Native.Nat.{◌-◌, ◌^◌}
-use native.Mathlib.Omega.{arith}
-use borrow.Author.Tests.{not-false}
 use lib.ListN.{length}
 use Rattle.pcd_book.specs.Shelves.{Fits, Kept}
-use Rattle.pcd_book.proofs.Laws.{fits-as, none_kept}
 use Rattle.pcd_book.proofs.gathering.gather.Given as goal
 
 abbrev pub invariant-loop-shelf : goal.invariant-loop-shelf
