@@ -1,6 +1,5 @@
 -- `relock_vectors::every_cut` is safe and ends: each of the eight lengths stands in the list. Assumes nothing.
 use Prim.Native.Nat.{◌-◌, ◌≤◌}
-use native.Mathlib.Omega.{arith}
 use Rattle.relock_vectors.proofs.every_cut.Given as goal
 
 abbrev pub invariant-loop-k : goal.invariant-loop-k

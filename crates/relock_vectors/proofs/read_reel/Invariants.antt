@@ -1,6 +1,5 @@
 -- `relock_vectors::read_reel` ends: the steps that are left fall. The area keeps its length. Assumes nothing.
-use native.Mathlib.Omega.{arith}
-use mathlib.Core.Path.{◌≡◌, refl, ◌∙◌}
+use mathlib.Core.Path.{◌≡◌}
 use lib.ListN.{length}
 use Rattle.relock_vectors.proofs.read_reel.Given as goal
 
