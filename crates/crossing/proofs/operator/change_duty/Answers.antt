@@ -31,5 +31,5 @@ returns c =
     let a = c.args in
     let written = c.put_tally.ensures in
     rw (written.n_after, written.frame_after)
-    (duty_changed _ _ o.0 o.1 (omega (arith, c.if-operator-gt-LAST_OPERATOR.false)) _
+    (duty_changed _ _ o.0 o.1 (omega arith) _
     (c.on_duty-left.ensures ∙ ap (λ (t : Tally). with_operators (on_duty a.operator t.operators) t) c.tally_of-t.ensures))
