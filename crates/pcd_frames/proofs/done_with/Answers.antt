@@ -5,14 +5,14 @@ use Rattle.pcd_frames.proofs.Laws.{settled, shifted, due, wrote}
 use Rattle.pcd_frames.proofs.done_with.Goals as goal
 
 pub returns-in-Onward : goal.returns-in-Onward
-returns-in-Onward g c = settled _ _ _ c.requires _ (ap is_complete c.enum_told-1.given.1) (record { reel_is = refl; written_is = refl })
+returns-in-Onward g c = settled _ _ _ c.requires _ (ap is_complete c.in-Onward.is) (record { reel_is = refl; written_is = refl })
 
 pub returns-in-Filled : goal.returns-in-Filled
 returns-in-Filled g c =
-    settled _ _ _ c.requires _ (ap is_complete c.enum_told-in-Filled-1.given.1) c.told.ensures
+    settled _ _ _ c.requires _ (ap is_complete c.in-Filled.is) c.told.ensures
 
 pub write_frame-requires : goal.write_frame-requires
-write_frame-requires g c = due _ _ _ c.requires c.enum_told-in-Complete-1.given.1
+write_frame-requires g c = due _ _ _ c.requires c.in-Complete.is
 
 pub returns-in-Complete : goal.returns-in-Complete
 returns-in-Complete g c =
@@ -21,15 +21,15 @@ returns-in-Complete g c =
 
 pub returns-in-Cut : goal.returns-in-Cut
 returns-in-Cut g c =
-    shifted _ _ _ c.requires _ (ap is_complete c.enum_told-in-Cut-1.given.1) c.change_shift.ensures
+    shifted _ _ _ c.requires _ (ap is_complete c.in-Cut.is) c.change_shift.ensures
 
 pub returns-in-Ended : goal.returns-in-Ended
 returns-in-Ended g c =
-    settled _ _ _ c.requires _ (ap is_complete c.enum_told-in-Ended-1.given.1) c.ended.ensures
+    settled _ _ _ c.requires _ (ap is_complete c.in-Ended.is) c.ended.ensures
 
 pub returns-in-Unreadable : goal.returns-in-Unreadable
 returns-in-Unreadable g c =
-    settled _ _ _ c.requires _ (ap is_complete c.enum_told-in-Unreadable-1.given.1) c.undone.ensures
+    settled _ _ _ c.requires _ (ap is_complete c.in-Unreadable.is) c.undone.ensures
 
 pub returns-in-Refused : goal.returns-in-Refused
-returns-in-Refused g c = settled _ _ _ c.requires _ (ap is_complete c.event-1.given.1) c.refused.ensures
+returns-in-Refused g c = settled _ _ _ c.requires _ (ap is_complete c.in-Refused.is) c.refused.ensures

@@ -1,5 +1,4 @@
 use native.Mathlib.Omega.{arith}
-use Rattle.frames_state.specs.Frames.{AllWritten}
 use Rattle.pcd_frames.proofs.Laws.{all_read}
 use borrow.Author.Rules.{rules}
 use Rattle.pcd_frames.proofs.read_all.Goals as goal

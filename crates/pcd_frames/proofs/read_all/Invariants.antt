@@ -1,7 +1,5 @@
 -- `pcd_frames::read_all` meets its contract: at each turn all that is paid is written, and the turns that are left fall. Assumes nothing.
-use native.Mathlib.Omega.{arith}
 use Rattle.frames_state.specs.Frames.{AllWritten}
-use Rattle.pcd_frames.proofs.Laws.{all_read}
 use Rattle.pcd_frames.proofs.read_all.Given as goal
 
 abbrev pub invariant-loop-turns : goal.invariant-loop-turns

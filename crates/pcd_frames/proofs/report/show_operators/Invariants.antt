@@ -1,6 +1,5 @@
 -- `pcd_frames::report::show_operators` ends: the operators that are left fall. Assumes nothing.
 use Prim.Native.Nat.{◌-◌, ◌≤◌}
-use native.Mathlib.Omega.{arith}
 use Rattle.pcd_frames.proofs.report.show_operators.Given as goal
 
 abbrev pub invariant-loop-k : goal.invariant-loop-k
