@@ -1,8 +1,6 @@
 -- `pcd_orbit::write_cycles` ends: with each cycle more frames are read. Assumes nothing.
-use mathlib.Core.Path.{◌≡◌, refl}
+use mathlib.Core.Path.{◌≡◌}
 use Prim.Native.Nat.{◌-◌, ◌^◌, ◌≤◌}
-use native.Mathlib.Omega.{arith}
-use borrow.Author.Tests.{not-false}
 use lib.ListN.{length}
 use Rattle.pcd_orbit.proofs.write_cycles.Given as goal
 

@@ -1,7 +1,6 @@
 -- `pcd_orbit::records::show_cycle_in` ends: the major frames that are left fall. Assumes nothing.
-use mathlib.Core.Path.{◌≡◌, refl}
+use mathlib.Core.Path.{◌≡◌}
 use Prim.Native.Nat.{◌-◌, ◌≤◌}
-use native.Mathlib.Omega.{arith}
 use lib.ListN.{length}
 use Rattle.pcd_orbit.proofs.records.show_cycle_in.Given as goal
 
