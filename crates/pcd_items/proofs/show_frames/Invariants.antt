@@ -1,8 +1,5 @@
 -- `pcd_items::show_frames` ends: the frames that are left fall. Assumes nothing.
-use mathlib.Core.Path.{sym}
-use Prim.Native.Nat.{ℕ, ◌-◌}
-use native.Mathlib.Omega.{arith}
-use lib.ListN.{length-replicate}
+use Prim.Native.Nat.{◌-◌}
 use Rattle.pcd_items.proofs.show_frames.Given as goal
 
 abbrev pub invariant-loop-frame : goal.invariant-loop-frame
