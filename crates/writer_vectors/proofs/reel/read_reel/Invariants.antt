@@ -1,7 +1,6 @@
 -- `writer_vectors::reel::read_reel` is safe and ends: each accepted step goes onward, and a refused one ends it. Assumes nothing.
-use mathlib.Core.Path.{◌≡◌, refl, ◌∙◌}
+use mathlib.Core.Path.{◌≡◌}
 use Prim.Native.Nat.{◌-◌}
-use native.Mathlib.Omega.{arith}
 use lib.ListN.{length}
 use Rattle.writer_vectors.proofs.reel.read_reel.Given as goal
 

@@ -1,18 +1,15 @@
 use mathlib.Core.Path.{◌≡◌, refl, ◌∙◌}
-use Prim.Native.Nat.{◌+◌, ◌≤◌, ◌-◌}
+use mathlib.Core.List.{List}
+use Prim.Native.Nat.{ℕ, ◌+◌, ◌≤◌, ◌-◌}
 use native.Mathlib.Omega.{arith}
 use lib.ListN.{length}
-use borrow.Rule.Slice.PartMut.{mid_len}
+use borrow.Rule.Slice.PartMut.{mid_of, mid_len, same_len_mid}
 use Rattle.writer_vectors.proofs.reel.write_frames.Goals as goal
-use Rattle.writer_vectors.proofs.reel.write_frames.Goals.{After-slice_known-in-loop-i-1}
 
--- after a call: what it wrote ends within the room
-module _ (c : After-slice_known-in-loop-i-1) where
-  within : c.loop-i.at + c.write_frame-at.result ≤ length c.loop-i.room
-  within =
-      let k = c.loop-i in
-      let call = c.write_frame-at in
-      omega (arith, mid_len k.at (length k.room) k.room (omega arith), call.kept.1.1.0, call.ensures, k.inv.0)
+-- after a call on the room from `at` on: what it wrote ends within the room
+within : (at n : ℕ) (room new : List ℕ) → at ≤ length room → length new ≡ length (mid_of at (length room - at) room) → n ≤ length new
+    → at + n ≤ length room
+within at n room new there kept written = omega (arith, mid_len at (length room) room (omega arith), kept, written, there)
 
 pub loop-i-init : goal.loop-i-init
 loop-i-init c = (omega arith, omega arith, refl)
@@ -45,7 +42,9 @@ pub slice_bounds-write_frame-end-in-loop-i : goal.slice_bounds-write_frame-end-i
 slice_bounds-write_frame-end-in-loop-i c = omega arith
 
 pub overflow_add-at : goal.overflow_add-at
-overflow_add-at c = omega (arith, within c, c.well_formed.1.1.1.0.0, c.loop-i.invariant.2)
+overflow_add-at c =
+    let ends = within _ _ _ _ c.loop-i.invariant.0 c.write_frame-at.auto.room c.write_frame-at.ensures in
+    record { fits = omega (arith, ends, c.loop-i.invariant.2) }
 
 pub overflow_add-i : goal.overflow_add-i
 overflow_add-i c = omega arith
@@ -55,8 +54,9 @@ loop-i-smaller c = omega arith
 
 pub loop-i-preserved : goal.loop-i-preserved
 loop-i-preserved c =
-    let kept = c.room-1.given.1 in
-    (omega (arith, within c, kept), omega (arith, c.loop-i-test.true), kept ∙ c.loop-i.invariant.2)
+    let kept = same_len_mid c.loop-i.at _ c.loop-i.room _ c.write_frame-at.auto.room in
+    let ends = within _ _ _ _ c.loop-i.invariant.0 c.write_frame-at.auto.room c.write_frame-at.ensures in
+    (omega (arith, ends, kept), omega (arith, c.loop-i-test.true), kept ∙ c.loop-i.invariant.2)
 
 pub shape_of-room : goal.shape_of-room
 shape_of-room c = c.loop-i.invariant.2

@@ -1,9 +1,7 @@
 -- `writer_vectors::reel::write_frames` is safe and ends: what was written stays within the room, whose length no call changes. Assumes nothing.
-use mathlib.Core.Path.{◌≡◌, refl, ◌∙◌}
-use Prim.Native.Nat.{◌+◌, ◌≤◌, ◌-◌}
-use native.Mathlib.Omega.{arith}
+use mathlib.Core.Path.{◌≡◌}
+use Prim.Native.Nat.{◌≤◌, ◌-◌}
 use lib.ListN.{length}
-use borrow.Rule.Slice.PartMut.{mid_len}
 use Rattle.writer_vectors.proofs.reel.write_frames.Given as goal
 
 abbrev pub invariant-loop-i : goal.invariant-loop-i
