@@ -4,15 +4,14 @@ ghost use Rattle.io.specs.Counts.{IsPrefixLen};
 use std::env::FillError;
 use std::rt::Env;
 
-// Copies as much of argument i as the room has to its start, and answers how many bytes that are;
-// none where there is no such argument.
+// Copies argument i to the start of the room, and answers how many bytes it has; none where there is
+// no such argument, or where it is longer than the room.
 pub fn argument(rt: &impl Env, i: usize, room: &mut [u8]) -> usize
     ensures { IsPrefixLen result room.new }
 {
     match rt.arg(i, room) {
         Ok(n) => n,
-        Err(FillError::TooLong) => room.len(),
-        Err(FillError::NotPresent) => 0,
+        Err(_) => 0,
     }
 }
 
