@@ -26,35 +26,24 @@ pub returns-then-not-in_order : goal.returns-then-not-in_order
 returns-then-not-in_order c = sym (order_refused _ _ _ _ _ (sym c.in_order.ensures ∙ c.if-not-in_order.true))
 
 pub returns-then-area-ne-MAJOR_FRAME : goal.returns-then-area-ne-MAJOR_FRAME
-returns-then-area-ne-MAJOR_FRAME c =
-    let past = (goal.at.returns-then-area-ne-MAJOR_FRAME c).Else-not-in_order in
-    let o = order past in sym (line _ _ _ _ _ _ o.0 (wrong-area _ _ _ o.1 c.if-area-ne-MAJOR_FRAME.true))
+returns-then-area-ne-MAJOR_FRAME c = let o = order (goal.at.returns-then-area-ne-MAJOR_FRAME c).Else-not-in_order in sym (line _ _ _ _ _ _ o.0 (wrong-area _ _ _ o.1 c.if-area-ne-MAJOR_FRAME.true))
 
 pub overflow_sub-left : goal.overflow_sub-left
 overflow_sub-left c = within (goal.at.overflow_sub-left c).Else-not-in_order
 
 pub returns-then-left-lt-LEAD_IN : goal.returns-then-left-lt-LEAD_IN
 returns-then-left-lt-LEAD_IN c =
-    let past = (goal.at.returns-then-left-lt-LEAD_IN c).Else-not-in_order in
-    let o = order past in
-    sym (line _ _ _ _ _ _ o.0 (too_long _ _ _ o.1 c.if-area-ne-MAJOR_FRAME.false
-    (omega (arith, c.if-left-lt-LEAD_IN.true, within past))))
+    let o = order (goal.at.returns-then-left-lt-LEAD_IN c).Else-not-in_order in
+    sym (line _ _ _ _ _ _ o.0 (too_long _ _ _ o.1 c.if-area-ne-MAJOR_FRAME.false (omega (arith, c.if-left-lt-LEAD_IN.true, within (goal.at.returns-then-left-lt-LEAD_IN c).Else-not-in_order))))
 
 pub returns-then-left-piece : goal.returns-then-left-piece
 returns-then-left-piece c =
-    let past = (goal.at.returns-then-left-piece c).Else-not-in_order in
-    let o = order past in
-    sym (line _ _ _ _ _ _ o.0 (too_long _ _ _ o.1 c.if-area-ne-MAJOR_FRAME.false
-    (omega (arith, c.if-left-piece.true, c.if-left-lt-LEAD_IN.false, within past))))
+    let o = order (goal.at.returns-then-left-piece c).Else-not-in_order in
+    sym (line _ _ _ _ _ _ o.0 (too_long _ _ _ o.1 c.if-area-ne-MAJOR_FRAME.false (omega (arith, c.if-left-piece.true, c.if-left-lt-LEAD_IN.false, within (goal.at.returns-then-left-piece c).Else-not-in_order))))
 
 pub returns : goal.returns
 returns c =
-    let past = (goal.at.returns c).Else-not-in_order in
-    let o = order past in
+    let o = order (goal.at.returns c).Else-not-in_order in
     sym
     (line _ _ _ _ _ _ o.0
-    (accepted-by _ _ _ record {
-      order = o.1;
-      whole-area = c.if-area-ne-MAJOR_FRAME.false;
-      fits = omega (arith, c.if-left-piece.false, c.if-left-lt-LEAD_IN.false, within past);
-    }))
+    (accepted-by _ _ _ record { order = o.1; whole-area = c.if-area-ne-MAJOR_FRAME.false; fits = omega (arith, c.if-left-piece.false, c.if-left-lt-LEAD_IN.false, within (goal.at.returns c).Else-not-in_order) }))

@@ -22,31 +22,19 @@ module _ (c : Else-not-in_order) where
   within = bytes_within c.args.f.tally (feeder_ordered c.args.f order).in_tally
 
 pub returns-then-area-ne-MAJOR_FRAME : goal.returns-then-area-ne-MAJOR_FRAME
-returns-then-area-ne-MAJOR_FRAME c =
-    let past = (goal.at.returns-then-area-ne-MAJOR_FRAME c).Else-not-in_order in
-    sym (wrong-area _ _ _ (order past) c.if-area-ne-MAJOR_FRAME.true)
+returns-then-area-ne-MAJOR_FRAME c = sym (wrong-area _ _ _ (order (goal.at.returns-then-area-ne-MAJOR_FRAME c).Else-not-in_order) c.if-area-ne-MAJOR_FRAME.true)
 
 pub overflow_sub-left : goal.overflow_sub-left
 overflow_sub-left c = within (goal.at.overflow_sub-left c).Else-not-in_order
 
 pub returns-then-left-lt-LEAD_IN : goal.returns-then-left-lt-LEAD_IN
 returns-then-left-lt-LEAD_IN c =
-    let past = (goal.at.returns-then-left-lt-LEAD_IN c).Else-not-in_order in
-    sym (too_long _ _ _ (order past) c.if-area-ne-MAJOR_FRAME.false
-    (omega (arith, c.if-left-lt-LEAD_IN.true, within past)))
+    sym (too_long _ _ _ (order (goal.at.returns-then-left-lt-LEAD_IN c).Else-not-in_order) c.if-area-ne-MAJOR_FRAME.false (omega (arith, c.if-left-lt-LEAD_IN.true, within (goal.at.returns-then-left-lt-LEAD_IN c).Else-not-in_order)))
 
 pub returns-then-left-piece : goal.returns-then-left-piece
 returns-then-left-piece c =
-    let past = (goal.at.returns-then-left-piece c).Else-not-in_order in
-    sym (too_long _ _ _ (order past) c.if-area-ne-MAJOR_FRAME.false
-    (omega (arith, c.if-left-piece.true, c.if-left-lt-LEAD_IN.false, within past)))
+    sym (too_long _ _ _ (order (goal.at.returns-then-left-piece c).Else-not-in_order) c.if-area-ne-MAJOR_FRAME.false (omega (arith, c.if-left-piece.true, c.if-left-lt-LEAD_IN.false, within (goal.at.returns-then-left-piece c).Else-not-in_order)))
 
 pub returns : goal.returns
 returns c =
-    let past = (goal.at.returns c).Else-not-in_order in
-    sym
-    (accepted-by _ _ _ record {
-      order = order past;
-      whole-area = c.if-area-ne-MAJOR_FRAME.false;
-      fits = omega (arith, c.if-left-piece.false, c.if-left-lt-LEAD_IN.false, within past);
-    })
+    sym (accepted-by _ _ _ record { order = order (goal.at.returns c).Else-not-in_order; whole-area = c.if-area-ne-MAJOR_FRAME.false; fits = omega (arith, c.if-left-piece.false, c.if-left-lt-LEAD_IN.false, within (goal.at.returns c).Else-not-in_order) })

@@ -25,32 +25,27 @@ read_on-requires c = accepted (goal.at.read_on-requires c).Else-number-ne0
 
 pub returns-then-not-f : goal.returns-then-not-f
 returns-then-not-f c =
-    let past = (goal.at.returns-then-not-f c).Else-number-ne0 in
-    reads_all _ _ _ _ (accepted past) (not-true _ c.if-not-f.true) c.read_on.result _ c.read_on.ensures
+    reads_all _ _ _ _ (accepted (goal.at.returns-then-not-f c).Else-number-ne0) (not-true _ c.if-not-f.true) c.read_on.result _ c.read_on.ensures
 
 pub slice_bounds-read_on-end : goal.slice_bounds-read_on-end
 slice_bounds-read_on-end c = sym (length-take-le _ _ c.before_group-k.ensures.1)
 
 pub read_on-requires-then-k-gt0 : goal.read_on-requires-then-k-gt0
 read_on-requires-then-k-gt0 c =
-    let past = (goal.at.read_on-requires-then-k-gt0 c).Else-number-ne0 in
     let args = c.args in
     let piece = args.piece.now in
     let k = c.before_group-k.result in
     let within = c.before_group-k.ensures.1 in
     accepts_part args.f (length piece) (length (take k piece)) (length args.area.now) (omega (arith, within, length-take-le k piece within))
-    (accepted past)
+    (accepted (goal.at.read_on-requires-then-k-gt0 c).Else-number-ne0)
 
 pub returns-then-k-gt0 : goal.returns-then-k-gt0
 returns-then-k-gt0 c =
-    let past = (goal.at.returns-then-k-gt0 c).Else-number-ne0 in
     let found = c.before_group-k.ensures in
-    reads_before _ _ _ _ (accepted past) (not-false _ c.if-not-f.false) (omega (arith, found.0, c.if-k-gt0.true))
-    (omega (arith, found.0, found.1))
+    reads_before _ _ _ _ (accepted (goal.at.returns-then-k-gt0 c).Else-number-ne0) (not-false _ c.if-not-f.false) (omega (arith, found.0, c.if-k-gt0.true)) (omega (arith, found.0, found.1))
     c.read_on-then-k-gt0.result _
     (rw found.0 at c.read_on-then-k-gt0.ensures)
 
 pub decide-requires : goal.decide-requires
 decide-requires c =
-    let past = (goal.at.decide-requires c).Else-number-ne0 in
-    (accepted past, not-false _ c.if-not-f.false, omega (arith, c.before_group-k.ensures.0, c.if-k-gt0.false))
+    (accepted (goal.at.decide-requires c).Else-number-ne0, not-false _ c.if-not-f.false, omega (arith, c.before_group-k.ensures.0, c.if-k-gt0.false))

@@ -17,8 +17,7 @@ module _ (w : After-read_refusal-number) where
 
 pub returns-then-number-ne0 : goal.returns-then-number-ne0
 returns-then-number-ne0 c =
-    let past = (goal.at.returns-then-number-ne0 c).After-read_refusal-number in
-    read-refused _ _ _ _ c.fresh-begun.ensures.is_fresh c.read_refusal-number.result (refusal_is past) c.if-number-ne0.true
+    read-refused _ _ _ _ c.fresh-begun.ensures.is_fresh c.read_refusal-number.result (refusal_is (goal.at.returns-then-number-ne0 c).After-read_refusal-number) c.if-number-ne0.true
 
 pub read_all-requires : goal.read_all-requires
 read_all-requires c =
@@ -27,6 +26,5 @@ read_all-requires c =
 
 pub returns : goal.returns
 returns c =
-    let past = (goal.at.returns c).After-read_refusal-number in
     read_whole c.args.rule c.args.stream.now c.args.area.now _ c.fresh-begun.ensures.is_fresh
-    (sym (refusal_is past) ∙ c.if-number-ne0.false) c.read_all.result _ c.read_all.ensures
+    (sym (refusal_is (goal.at.returns c).After-read_refusal-number) ∙ c.if-number-ne0.false) c.read_all.result _ c.read_all.ensures

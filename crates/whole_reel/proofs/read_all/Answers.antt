@@ -40,24 +40,18 @@ overflow_add-at c =
 
 pub overflow_add-paid : goal.overflow_add-paid
 overflow_add-paid c =
-    let past = (goal.at.overflow_add-paid c).After-relock-r in
     let i = c.loop-at.invariant.1 in
-    let one_more = at_most_one _ _ _ _ _ _ i c.loop-at-test.true c.relock-r.result _ (promised past) in
-    record { fits = omega (arith, inside past, one_more, i.few, c.number-paid.ensures, c.well_formed.1.0.0) }
+    let one_more = at_most_one _ _ _ _ _ _ i c.loop-at-test.true c.relock-r.result _ (promised (goal.at.overflow_add-paid c).After-relock-r) in
+    record { fits = omega (arith, inside (goal.at.overflow_add-paid c).After-relock-r, one_more, i.few, c.number-paid.ensures, c.well_formed.1.0.0) }
 
 pub loop-at-smaller : goal.loop-at-smaller
 loop-at-smaller c =
-    let past = (goal.at.loop-at-smaller c).After-relock-r in
-    omega (arith, inside past, further past, c.loop-at-test.true)
+    omega (arith, inside (goal.at.loop-at-smaller c).After-relock-r, further (goal.at.loop-at-smaller c).After-relock-r, c.loop-at-test.true)
 
 pub loop-at-preserved : goal.loop-at-preserved
 loop-at-preserved c =
-    let past = (goal.at.loop-at-preserved c).After-relock-r in
-    let i = c.loop-at.invariant in (
-      i.0,
-      reads_more _ _ _ _ _ _ i.1 c.loop-at-test.true c.relock-r.result _ (promised past)
-          c.number-paid.result c.number-paid.ensures c.relock-r.auto.area,
-    )
+    let i = c.loop-at.invariant in
+    (i.0, reads_more _ _ _ _ _ _ i.1 c.loop-at-test.true c.relock-r.result _ (promised (goal.at.loop-at-preserved c).After-relock-r) c.number-paid.result c.number-paid.ensures c.relock-r.auto.area)
 
 pub shape_of-area : goal.shape_of-area
 shape_of-area c = c.loop-at.invariant.1.kept

@@ -17,29 +17,21 @@ returns-then-frame-ne-MINOR_FRAME c =
 pub returns-then-out-step : goal.returns-then-out-step
 returns-then-out-step c =
     let a = c.args in
-    out-wrong_length a.spacing a.frame.now a.out.now (omega (arith, c.if-spacing-gt-MOST_SPACING.false))
-    c.if-frame-ne-MINOR_FRAME.false c.if-out-step.true
+    out-wrong_length a.spacing a.frame.now a.out.now (omega (arith, c.if-spacing-gt-MOST_SPACING.false)) c.if-frame-ne-MINOR_FRAME.false c.if-out-step.true
 
 pub put_stream-requires : goal.put_stream-requires
-put_stream-requires c = (
-  omega arith,
-  omega (arith, c.if-spacing-gt-MOST_SPACING.false),
-  omega (arith, c.if-frame-ne-MINOR_FRAME.false),
-  rw
-      c.if-frame-ne-MINOR_FRAME.false c.if-out-step.false,
-)
+put_stream-requires c =
+    (omega arith, omega (arith, c.if-spacing-gt-MOST_SPACING.false), omega (arith, c.if-frame-ne-MINOR_FRAME.false), rw c.if-frame-ne-MINOR_FRAME.false c.if-out-step.false)
 
 pub returns-then-is_writable : goal.returns-then-is_writable
 returns-then-is_writable c =
     let a = c.args in
     let writable = sym c.is_writable.ensures ∙ c.if-is_writable.true in
-    frame-written a.spacing a.frame.now a.out.now (omega (arith, c.if-spacing-gt-MOST_SPACING.false))
-    c.if-frame-ne-MINOR_FRAME.false c.if-out-step.false writable
+    frame-written a.spacing a.frame.now a.out.now (omega (arith, c.if-spacing-gt-MOST_SPACING.false)) c.if-frame-ne-MINOR_FRAME.false c.if-out-step.false writable
     c.put_stream.ensures
 
 pub returns : goal.returns
 returns c =
     let a = c.args in
     let unwritable = sym c.is_writable.ensures ∙ c.if-is_writable.false in
-    frame-not_writable a.spacing a.frame.now a.out.now (omega (arith, c.if-spacing-gt-MOST_SPACING.false))
-    c.if-frame-ne-MINOR_FRAME.false c.if-out-step.false unwritable
+    frame-not_writable a.spacing a.frame.now a.out.now (omega (arith, c.if-spacing-gt-MOST_SPACING.false)) c.if-frame-ne-MINOR_FRAME.false c.if-out-step.false unwritable
