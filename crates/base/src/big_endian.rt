@@ -2,8 +2,6 @@
 ghost use Rattle.std.specs.Prelude.{◌≡◌, length};
 ghost use Rattle.base.specs.Numbers.{NumberOf, bytes_of};
 
-use crate::wide;
-
 // What a number keeps when a byte is added at its end: all of it, up to seven bytes.
 const SEVEN_BYTES: u64 = 1 << 56;
 
@@ -11,11 +9,9 @@ const SEVEN_BYTES: u64 = 1 << 56;
 pub fn read(bytes: &[u8]) -> u64
     ensures { NumberOf bytes.now result }
 {
-    let mut n: u64 = 0;
-    let mut i: usize = 0;
-    while i < bytes.len() {
-        n = n % SEVEN_BYTES * 256 + wide(bytes[i]);
-        i += 1;
+    let mut n = 0;
+    for &b in bytes {
+        n = n % SEVEN_BYTES * 256 + u64::from(b);
     }
     n
 }
@@ -25,9 +21,7 @@ pub fn write(n: u64, out: &mut [u8])
     ensures { out.new ≡ bytes_of (length out.old) n }
 {
     let mut rest = n;
-    let mut i = out.len();
-    while 0 < i {
-        i -= 1;
+    for i in (0..out.len()).rev() {
         out[i] = (rest % 256) as u8;
         rest = rest / 256;
     }

@@ -1,88 +1,164 @@
-// The refusal numbers (paper 01, "Refusal numbers", and those that paper 02 adds), by name. When each is given is said by the lines of each entry's definition.
+// The refusals, by name, and the number that the papers give each (paper 01, "Refusal numbers", and those that paper 02 adds). When each is given is
+// said by the lines of each entry's definition.
+ghost use Rattle.std.specs.Prelude.{◌≡◌};
+ghost use Rattle.base.specs.Refusals.{number};
 
-// The tally is not in order.
-pub const NOT_IN_ORDER: u8 = 1;
+// Why a call is refused. As a byte it is its number in the papers.
+#[derive(Clone, Copy, Debug, PartialEq, Eq)]
+pub enum Refusal {
+    // The tally is not in order.
+    NotInOrder = 1,
 
-// A lent area, column, source or output has another length than it must have.
-pub const WRONG_LENGTH: u8 = 2;
+    // A lent area, column, source or output has another length than it must have.
+    WrongLength = 2,
 
-// The bytes so far and the piece are more than 2^40.
-pub const TOO_MANY_BYTES: u8 = 3;
+    // The bytes so far and the piece are more than 2^40.
+    TooManyBytes = 3,
 
-// The spacing is above 60.
-pub const SPACING_TOO_WIDE: u8 = 4;
+    // The spacing is above 60.
+    SpacingTooWide = 4,
 
-// A minor frame to write lacks its sync words, or its number is above 127.
-pub const NOT_A_MINOR_FRAME: u8 = 5;
+    // A minor frame to write lacks its sync words, or its number is above 127.
+    NotAMinorFrame = 5,
 
-// The kind is above 3; or a column has none.
-pub const NO_SUCH_KIND: u8 = 6;
+    // The kind is above 3; or a column has none.
+    NoSuchKind = 6,
 
-// The kind has no such item.
-pub const NO_SUCH_ITEM: u8 = 7;
+    // The kind has no such item.
+    NoSuchItem = 7,
 
-// A digit or a field of a time is out of range.
-pub const TIME_OUT_OF_RANGE: u8 = 8;
+    // A digit or a field of a time is out of range.
+    TimeOutOfRange = 8,
 
-// The upper four bits of a 12-bit item are not 0.
-pub const UPPER_BITS_SET: u8 = 9;
+    // The upper four bits of a 12-bit item are not 0.
+    UpperBitsSet = 9,
 
-// A six-byte number is not normalised.
-pub const NOT_NORMALISED: u8 = 10;
+    // A six-byte number is not normalised.
+    NotNormalised = 10,
 
-// A double has no six-byte word.
-pub const NO_WORD_FOR_DOUBLE: u8 = 11;
+    // A double has no six-byte word.
+    NoWordForDouble = 11,
 
-// A list of instants is longer than 100,000.
-pub const LIST_TOO_LONG: u8 = 12;
+    // A list of instants is longer than 100,000.
+    ListTooLong = 12,
 
-// A year is outside 1999 to 2099.
-pub const YEAR_OUTSIDE_SPAN: u8 = 13;
+    // A year is outside 1999 to 2099.
+    YearOutsideSpan = 13,
 
-// The operator's number is above 7.
-pub const NO_SUCH_OPERATOR: u8 = 14;
+    // The operator's number is above 7.
+    NoSuchOperator = 14,
 
-// A fresh tally is asked for with another rule than 1 and 2. This is tested before all others.
-pub const NO_SUCH_RULE: u8 = 15;
+    // A fresh tally is asked for with another rule than 1 and 2. This is tested before all others.
+    NoSuchRule = 15,
 
-// A book's length is not that of its number of cycles, or it has more than 255.
-pub const WRONG_BOOK_LENGTH: u8 = 16;
+    // A book's length is not that of its number of cycles, or it has more than 255.
+    WrongBookLength = 16,
 
-// A body of a book is not as described.
-pub const NOT_A_CYCLE: u8 = 17;
+    // A body of a book is not as described.
+    NotACycle = 17,
 
-// An entry's instant is not its body's, or does not rise.
-pub const WRONG_INSTANT: u8 = 18;
+    // An entry's instant is not its body's, or does not rise.
+    WrongInstant = 18,
 
-// An entry's offset is not where its body starts.
-pub const WRONG_OFFSET: u8 = 19;
+    // An entry's offset is not where its body starts.
+    WrongOffset = 19,
 
-// A book has no such entry.
-pub const NO_SUCH_ENTRY: u8 = 20;
+    // A book has no such entry.
+    NoSuchEntry = 20,
 
-// The years of two books differ.
-pub const YEARS_DIFFER: u8 = 21;
+    // The years of two books differ.
+    YearsDiffer = 21,
 
-// A VCDU header has another length than eight bytes.
-pub const NOT_A_HEADER: u8 = 22;
+    // A VCDU header has another length than eight bytes.
+    NotAHeader = 22,
 
-// No code word lies within two symbols of a VCDU header's.
-pub const NO_CODE_WORD: u8 = 23;
+    // No code word lies within two symbols of a VCDU header's.
+    NoCodeWord = 23,
 
-// An area is not a whole number of slots of 16,384 bytes, 1 to 64 of them.
-pub const NOT_WHOLE_SLOTS: u8 = 24;
+    // An area is not a whole number of slots of 16,384 bytes, 1 to 64 of them.
+    NotWholeSlots = 24,
 
-// Bits are set beyond the slots.
-pub const BITS_BEYOND_SLOTS: u8 = 25;
+    // Bits are set beyond the slots.
+    BitsBeyondSlots = 25,
 
-// Every slot is in use.
-pub const NO_FREE_SLOT: u8 = 26;
+    // Every slot is in use.
+    NoFreeSlot = 26,
 
-// A slot is not in use, or not there.
-pub const NO_SUCH_SLOT: u8 = 27;
+    // A slot is not in use, or not there.
+    NoSuchSlot = 27,
 
-// A data pointer is above 84.
-pub const NO_SUCH_POINTER: u8 = 28;
+    // A data pointer is above 84.
+    NoSuchPointer = 28,
 
-// The frames to go on are more than 2^24 - 1.
-pub const TOO_MANY_FRAMES: u8 = 29;
+    // The frames to go on are more than 2^24 - 1.
+    TooManyFrames = 29,
+}
+
+impl Refusal {
+    // The number that the papers give it, 1 to 29.
+    pub fn number(self) -> u8
+        ensures { result ≡ number self }
+    {
+        self as u8
+    }
+}
+
+// ---- the numbers alone, for entries that answer by number
+
+pub const NOT_IN_ORDER: u8 = Refusal::NotInOrder as u8;
+
+pub const WRONG_LENGTH: u8 = Refusal::WrongLength as u8;
+
+pub const TOO_MANY_BYTES: u8 = Refusal::TooManyBytes as u8;
+
+pub const SPACING_TOO_WIDE: u8 = Refusal::SpacingTooWide as u8;
+
+pub const NOT_A_MINOR_FRAME: u8 = Refusal::NotAMinorFrame as u8;
+
+pub const NO_SUCH_KIND: u8 = Refusal::NoSuchKind as u8;
+
+pub const NO_SUCH_ITEM: u8 = Refusal::NoSuchItem as u8;
+
+pub const TIME_OUT_OF_RANGE: u8 = Refusal::TimeOutOfRange as u8;
+
+pub const UPPER_BITS_SET: u8 = Refusal::UpperBitsSet as u8;
+
+pub const NOT_NORMALISED: u8 = Refusal::NotNormalised as u8;
+
+pub const NO_WORD_FOR_DOUBLE: u8 = Refusal::NoWordForDouble as u8;
+
+pub const LIST_TOO_LONG: u8 = Refusal::ListTooLong as u8;
+
+pub const YEAR_OUTSIDE_SPAN: u8 = Refusal::YearOutsideSpan as u8;
+
+pub const NO_SUCH_OPERATOR: u8 = Refusal::NoSuchOperator as u8;
+
+pub const NO_SUCH_RULE: u8 = Refusal::NoSuchRule as u8;
+
+pub const WRONG_BOOK_LENGTH: u8 = Refusal::WrongBookLength as u8;
+
+pub const NOT_A_CYCLE: u8 = Refusal::NotACycle as u8;
+
+pub const WRONG_INSTANT: u8 = Refusal::WrongInstant as u8;
+
+pub const WRONG_OFFSET: u8 = Refusal::WrongOffset as u8;
+
+pub const NO_SUCH_ENTRY: u8 = Refusal::NoSuchEntry as u8;
+
+pub const YEARS_DIFFER: u8 = Refusal::YearsDiffer as u8;
+
+pub const NOT_A_HEADER: u8 = Refusal::NotAHeader as u8;
+
+pub const NO_CODE_WORD: u8 = Refusal::NoCodeWord as u8;
+
+pub const NOT_WHOLE_SLOTS: u8 = Refusal::NotWholeSlots as u8;
+
+pub const BITS_BEYOND_SLOTS: u8 = Refusal::BitsBeyondSlots as u8;
+
+pub const NO_FREE_SLOT: u8 = Refusal::NoFreeSlot as u8;
+
+pub const NO_SUCH_SLOT: u8 = Refusal::NoSuchSlot as u8;
+
+pub const NO_SUCH_POINTER: u8 = Refusal::NoSuchPointer as u8;
+
+pub const TOO_MANY_FRAMES: u8 = Refusal::TooManyFrames as u8;
