@@ -1,14 +1,19 @@
 -- Laws of `answered` and `refusal`: what is asked of an answer is asked of each of its cases. Assumes nothing.
-use Rattle.std.proofs.Common.{◌≡◌, refl, ap, ◌∙◌, Bool, true, false, cond, List, [], ◌∷◌, ◌++◌, ℕ, Result, Ok, Err}
+use Rattle.std.proofs.Common.{◌≡◌, refl, ap, ◌∙◌, Bool, true, false, cond, List, [], ◌∷◌, ◌++◌, map, ℕ, Result, Ok, Err}
 use native.Mathlib.Omega.{arith}
 use Rattle.base.specs.declared.refusal.Refusal.{Refusal}
-use Rattle.base.specs.Refusals.{number, Line, answered, refusal, number_of, values_of, Answers}
+use Rattle.base.specs.Ranges.{tabulate}
+use Rattle.base.specs.Refusals.{number, table, Line, answered, refusal, number_of, values_of, Answers}
 use Rattle.base.specs.declared.refusal.Refusal.TheVariants.{NotInOrder, WrongLength, TooManyBytes, SpacingTooWide, NotAMinorFrame}
 use Rattle.base.specs.declared.refusal.Refusal.TheVariants.{NoSuchKind, NoSuchItem, TimeOutOfRange, UpperBitsSet, NotNormalised}
 use Rattle.base.specs.declared.refusal.Refusal.TheVariants.{NoWordForDouble, ListTooLong, YearOutsideSpan, NoSuchOperator, NoSuchRule}
 use Rattle.base.specs.declared.refusal.Refusal.TheVariants.{WrongBookLength, NotACycle, WrongInstant, WrongOffset, NoSuchEntry}
 use Rattle.base.specs.declared.refusal.Refusal.TheVariants.{YearsDiffer, NotAHeader, NoCodeWord, NotWholeSlots, BitsBeyondSlots}
 use Rattle.base.specs.declared.refusal.Refusal.TheVariants.{NoFreeSlot, NoSuchSlot, NoSuchPointer, TooManyFrames}
+
+-- the papers number the refusals in their order, from 1 on
+pub numbered-so : map number table ≡ tabulate (λ n. n) 1 29
+numbered-so = refl
 
 module _ {A B : Type 0} (f : A → B) where
   cond_of : (b : Bool) (x y : A) → f (cond b x y) ≡ cond b (f x) (f y)

@@ -40,6 +40,15 @@ number NoSuchSlot = 27
 number NoSuchPointer = 28
 number TooManyFrames = 29
 
+-- the refusals in the papers' order, which are numbered so from 1 on
+abbrev pub table : List Refusal
+table =
+    NotInOrder ∷ WrongLength ∷ TooManyBytes ∷ SpacingTooWide ∷ NotAMinorFrame ∷ NoSuchKind ∷
+    NoSuchItem ∷ TimeOutOfRange ∷ UpperBitsSet ∷ NotNormalised ∷ NoWordForDouble ∷ ListTooLong ∷
+    YearOutsideSpan ∷ NoSuchOperator ∷ NoSuchRule ∷ WrongBookLength ∷ NotACycle ∷ WrongInstant ∷
+    WrongOffset ∷ NoSuchEntry ∷ YearsDiffer ∷ NotAHeader ∷ NoCodeWord ∷ NotWholeSlots ∷
+    BitsBeyondSlots ∷ NoFreeSlot ∷ NoSuchSlot ∷ NoSuchPointer ∷ TooManyFrames ∷ []
+
 -- a line of a call's list: a refusal, and whether what it is given for holds
 pub record Line : Type 0 where
   pub reason : Refusal
@@ -70,6 +79,11 @@ number_of (Err r) = number r
 abbrev pub values_of : {A : Type 0} → Result A Refusal → List A
 values_of (Ok a) = a ∷ []
 values_of (Err r) = []
+
+-- what it gives, or this where it is refused
+abbrev pub given_or : {A : Type 0} → A → Result A Refusal → A
+given_or old (Ok a) = a
+given_or old (Err r) = old
 
 -- the answer r is that of the lines, and `given` where none of them holds; then the same in the number and in what is given
 pub record Answers {A : Type 0} (lines : List Line) (given : A) (r : Result A Refusal) : Type 0 where

@@ -1,7 +1,7 @@
 // The refusals, by name, and the number that the papers give each (paper 01, "Refusal numbers", and those that paper 02 adds). When each is given is
 // said by the lines of each entry's definition.
 ghost use Rattle.std.specs.Prelude.{◌≡◌};
-ghost use Rattle.base.specs.Refusals.{number};
+ghost use Rattle.base.specs.Refusals.{number, number_of, given_or};
 
 // Why a call is refused. As a byte it is its number in the papers.
 #[derive(Clone, Copy, Debug, PartialEq, Eq)]
@@ -100,6 +100,30 @@ impl Refusal {
         ensures { result ≡ number self }
     {
         self as u8
+    }
+}
+
+// What a caller in another language is told: 0, or the number of the refusal.
+pub fn code<T: Drop>(answer: Result<T, Refusal>) -> u8
+    ensures { result ≡ number_of answer }
+{
+    match answer {
+        Ok(_) => 0,
+        Err(refusal) => refusal.number(),
+    }
+}
+
+// The same, and what the answer gives is put into `out`; a refusal leaves that as it was.
+pub fn pass<T: Copy + Drop>(answer: Result<T, Refusal>, out: &mut T) -> u8
+    ensures code { result ≡ number_of answer }
+    ensures out { out.new ≡ given_or out.old answer }
+{
+    match answer {
+        Ok(given) => {
+            *out = given;
+            0
+        }
+        Err(refusal) => refusal.number(),
     }
 }
 
