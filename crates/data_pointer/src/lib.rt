@@ -3,12 +3,7 @@
 
 ghost use Rattle.data_pointer.specs.Promise.{NextPromise, PreviousPromise, AfterPromise, DistancePromise};
 
-// A pointer, 0 to 84, or of `distance` a number of frames; or the number of the refusal.
-#[derive(Clone, Copy)]
-pub enum Answer {
-    Given(u64),
-    Refused(u8),
-}
+use base::refusal::Refusal;
 
 const POINTERS: u64 = 85;
 
@@ -20,53 +15,53 @@ const BACK: u64 = 47;
 const MOST_FRAMES: u64 = (1 << 24) - 1;
 
 // The pointer of the next frame. Refused 28: the pointer is above 84.
-pub fn next(p: u64) -> Answer
+pub fn next(p: u64) -> Result<u64, Refusal>
     ensures { NextPromise p result }
 {
     if POINTERS <= p {
-        return Answer::Refused(base::refusal::NO_SUCH_POINTER);
+        return Err(Refusal::NoSuchPointer);
     }
     if p < BACK {
-        return Answer::Given(p + ON);
+        return Ok(p + ON);
     }
-    Answer::Given(p - BACK)
+    Ok(p - BACK)
 }
 
 // The pointer of the frame before. Refused 28: the pointer is above 84.
-pub fn previous(p: u64) -> Answer
+pub fn previous(p: u64) -> Result<u64, Refusal>
     ensures { PreviousPromise p result }
 {
     if POINTERS <= p {
-        return Answer::Refused(base::refusal::NO_SUCH_POINTER);
+        return Err(Refusal::NoSuchPointer);
     }
     if p < ON {
-        return Answer::Given(p + BACK);
+        return Ok(p + BACK);
     }
-    Answer::Given(p - ON)
+    Ok(p - ON)
 }
 
 // The pointer n frames on. Refused 28: the pointer is above 84. Refused 29: n is above 2^24 - 1.
-pub fn after(p: u64, n: u64) -> Answer
+pub fn after(p: u64, n: u64) -> Result<u64, Refusal>
     ensures { AfterPromise p n result }
 {
     if POINTERS <= p {
-        return Answer::Refused(base::refusal::NO_SUCH_POINTER);
+        return Err(Refusal::NoSuchPointer);
     }
     if MOST_FRAMES < n {
-        return Answer::Refused(base::refusal::TOO_MANY_FRAMES);
+        return Err(Refusal::TooManyFrames);
     }
-    Answer::Given((p + ON * n) % POINTERS)
+    Ok((p + ON * n) % POINTERS)
 }
 
 // The smallest number of frames from p on to q, 0 to 84. Refused 28: either pointer is above 84.
-pub fn distance(p: u64, q: u64) -> Answer
+pub fn distance(p: u64, q: u64) -> Result<u64, Refusal>
     ensures { DistancePromise p q result }
 {
     if POINTERS <= p {
-        return Answer::Refused(base::refusal::NO_SUCH_POINTER);
+        return Err(Refusal::NoSuchPointer);
     }
     if POINTERS <= q {
-        return Answer::Refused(base::refusal::NO_SUCH_POINTER);
+        return Err(Refusal::NoSuchPointer);
     }
-    Answer::Given((q + POINTERS - p) * BACK % POINTERS)
+    Ok((q + POINTERS - p) * BACK % POINTERS)
 }

@@ -1,24 +1,23 @@
-// Runs the data pointer's entries on the records of standard input and writes a line for each answer: what tests/data_pointer_vectors.py
-// makes, with the answers that it worked out by walking.
+// Runs the data pointer's entries on the records of standard input and writes a line for each
+// answer: what tests/data_pointer_vectors.py makes, with the answers that it worked out by walking.
 #![tactic(auto)]
 
-use data_pointer::Answer;
+use base::refusal::Refusal;
 use std::io;
 use std::io::Input;
 use vectors::{field, filled, number, put};
 
 fn main(rt: HostRuntime) -> io::Result<()> {
-    let mut left = vectors::MOST_RECORDS;
-    while left > 0 {
+    for _ in 0..vectors::MOST_RECORDS {
         if !turn(&rt)? {
             return Ok(());
         }
-        left -= 1;
     }
     Ok(())
 }
 
-// Reads a record and runs it; false at the end of the input. A record: the operation, a pointer and a number (8 bytes each).
+// Reads a record and runs it; false at the end of the input. A record: the operation, a pointer and
+// a number (8 bytes each).
 fn turn(rt: &(impl Input + Print)) -> io::Result<bool> {
     let mut record = [0u8; 17];
     if !filled(rt, &mut record) {
@@ -30,21 +29,21 @@ fn turn(rt: &(impl Input + Print)) -> io::Result<bool> {
     Ok(true)
 }
 
-fn run(operation: u8, p: u64, n: u64) -> Answer {
+fn run(operation: u8, p: u64, n: u64) -> Result<u64, Refusal> {
     match operation {
-        1 => return data_pointer::next(p),
-        2 => return data_pointer::previous(p),
-        3 => return data_pointer::after(p, n),
-        _ => return data_pointer::distance(p, n),
+        1 => data_pointer::next(p),
+        2 => data_pointer::previous(p),
+        3 => data_pointer::after(p, n),
+        _ => data_pointer::distance(p, n),
     }
 }
 
-fn put_answer(rt: &impl Print, answer: Answer) -> io::Result<()> {
+fn put_answer(rt: &impl Print, answer: Result<u64, Refusal>) -> io::Result<()> {
     match answer {
-        Answer::Given(v) => {
+        Ok(v) => {
             field(rt, b"", v)?;
             put(rt, b"\n")
         }
-        Answer::Refused(r) => vectors::put_refusal(rt, r),
+        Err(r) => vectors::put_refusal(rt, r.number()),
     }
 }

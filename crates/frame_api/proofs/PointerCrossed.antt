@@ -1,22 +1,13 @@
--- What `data_pointer` promises of an answer, said of what crosses, where the answer is known to be one of its cases. Assumes nothing.
-use mathlib.Core.Path.{◌≡◌, ap, sym, ◌∙◌}
-use mathlib.Core.List.{List}
-use Prim.Native.Nat.{ℕ}
-use Rattle.base.specs.Refusal.{Line}
-use Rattle.base.proofs.Refusals.{answered-of}
-use Rattle.data_pointer.specs.declared.Answer.{Answer}
-use Rattle.data_pointer.specs.declared.Answer.TheVariants.{Given, Refused}
-use Rattle.data_pointer.specs.Answers.{number_of, Answers}
+-- What `data_pointer` promises of an answer, said of what crosses. Assumes nothing.
+use Rattle.std.proofs.Common.{◌≡◌, ap, ◌∙◌, List, ℕ, Result, Ok, Err}
+use Rattle.base.specs.declared.refusal.Refusal.{Refusal}
+use Rattle.base.specs.Refusals.{Line, number_of, given_or, Answers}
+use Rattle.base.proofs.Lines.{answered-of}
 use Rattle.frame_api.specs.Pointer.{PointerCrossed}
 
--- what the answer gives, or what was there
-abbrev pub value_or : ℕ → Answer → ℕ
-value_or old (Given v) = v
-value_or old (Refused n) = old
-
-pub pointer_crossed : (lines : List Line) (v : ℕ) (r a : Answer) (old : ℕ) → Answers lines v r → r ≡ a
-    → PointerCrossed lines v (number_of a) old (value_or old a)
-pointer_crossed lines v r a old p e = record {
-  refusal_is = sym (ap number_of e) ∙ p.refusal_is;
-  value-is = ap (value_or old) (sym e ∙ p.answer) ∙ answered-of (value_or old) Refused lines (Given v);
+pub pointer_crossed : {lines : List Line} {v code old new : ℕ} {r : Result ℕ Refusal} → Answers lines v r
+    → code ≡ number_of r → new ≡ given_or old r → PointerCrossed lines v code old new
+pointer_crossed {lines = lines} {v = v} {old = old} p e f = record {
+  refusal_is = e ∙ p.refusal_is;
+  value-is = f ∙ ap (given_or old) p.answer ∙ answered-of (given_or old) Err lines (Ok v);
 }

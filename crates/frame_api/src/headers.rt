@@ -1,14 +1,15 @@
-// The check symbols of a VCDU header. The answer is the number of the refusal, 0 for none; a refusal writes nothing.
+// The check symbols of a VCDU header. The answer is the number of the refusal, 0 for none; a refusal
+// writes nothing.
 ghost use Rattle.vcdu_header.specs.Promise.{EncodePromise};
 ghost use Rattle.frame_api.specs.Headers.{CheckCrossed, RepairCrossed};
 
-use vcdu_header::{Checked, Repaired};
+use base::refusal;
 
 // Writes the check symbols into the last two bytes.
 pub fn pcd_encode_header(header: &mut [u8]) -> u8
     ensures { EncodePromise header.old header.new result }
 {
-    vcdu_header::encode(header)
+    refusal::code(vcdu_header::encode(header))
 }
 
 // Whether the ten symbols are a code word: 1 or 0.
@@ -16,17 +17,11 @@ pub fn pcd_check_header(header: &[u8], out: &mut u64) -> u8
     ensures { CheckCrossed header.now result out.old out.new }
 {
     match vcdu_header::check(header) {
-        Checked::Good => {
-            *out = 1;
-            return 0;
+        Ok(word) => {
+            *out = u64::from(word);
+            0
         }
-        Checked::Bad => {
-            *out = 0;
-            return 0;
-        }
-        Checked::Refused(number) => {
-            return number;
-        }
+        Err(refusal) => refusal.number(),
     }
 }
 
@@ -34,13 +29,5 @@ pub fn pcd_check_header(header: &[u8], out: &mut u64) -> u8
 pub fn pcd_repair_header(header: &mut [u8], out: &mut u64) -> u8
     ensures { RepairCrossed header.old header.new result out.old out.new }
 {
-    match vcdu_header::repair(header) {
-        Repaired::Corrected(count) => {
-            *out = count;
-            return 0;
-        }
-        Repaired::Refused(number) => {
-            return number;
-        }
-    }
+    refusal::pass(vcdu_header::repair(header), out)
 }

@@ -1,17 +1,16 @@
 -- The promises of the three entries on each of their ways out, from the laws of the code. The entries look a header's ten symbols up in tables, and
 -- `header_code` proves what the tables give of any ten symbols, so that here only the ways out are told apart. Assumes nothing.
-use mathlib.Core.Path.{◌≡◌, refl, sym, ap, ◌∙◌, subst}
-use mathlib.Core.Bool.{Bool, true, false, cond, not}
-use mathlib.Core.List.{List, ◌++◌}
+use Rattle.std.proofs.Common.{◌≡◌, refl, sym, ap, ◌∙◌, subst, Bool, true, false, cond, not, List, ◌++◌, ℕ, ◌/◌, ◌%◌, ◌≤◌, ◌<◌, Result, Ok, Err}
 use mathlib.Core.Option.{Option, none, some}
-use Prim.Native.Nat.{ℕ, ◌/◌, ◌%◌, ◌≤◌, ◌<◌}
 use native.Mathlib.Omega.{arith}
 use lib.Dec.{eqb}
 use lib.ListN.{length, get_or, set, take}
 use lib.Seq.{get_or-set_other}
 use borrow.Author.Tests.{eq-eqb, ne_eqb, eqb-true}
-use Rattle.base.specs.Refusal.{answered, refusal}
-use Rattle.base.proofs.Refusals.{answered-of}
+use Rattle.base.specs.declared.refusal.Refusal.{Refusal}
+use Rattle.base.specs.declared.refusal.Refusal.TheVariants.{NotAHeader, NoCodeWord}
+use Rattle.base.specs.Refusals.{answered, refusal, number_of}
+use Rattle.base.proofs.Lines.{told}
 use Rattle.header_code.specs.Field.{◌⊕◌}
 use Rattle.header_code.specs.Code.{Word, add, weight, Near, the_only}
 use Rattle.header_code.specs.Symbols.{symbols_of, combined}
@@ -24,13 +23,8 @@ use Rattle.header_code.proofs.Light.{located-light}
 use Rattle.header_code.proofs.Repairing as repairing
 use Rattle.header_symbols.specs.Header.{put_after}
 use Rattle.header_symbols.proofs.Bytes.{put-header}
-use Rattle.vcdu_header.specs.declared.Checked.{Checked}
-use Rattle.vcdu_header.specs.declared.Checked.TheVariants as checked
-use Rattle.vcdu_header.specs.declared.Repaired.{Repaired}
-use Rattle.vcdu_header.specs.declared.Repaired.TheVariants as repaired
 use Rattle.vcdu_header.specs.Header.{symbols, counter, placed}
-use Rattle.vcdu_header.specs.Answers.{header_lines, is_none, repair_lines, unchecked, told, check_values, verdict, unrepaired, counted, repair_values}
-use Rattle.vcdu_header.specs.Answers.{changes, restored}
+use Rattle.vcdu_header.specs.Answers.{header_lines, is_none, repair_lines, changes, restored}
 use Rattle.vcdu_header.specs.Promise.{EncodePromise, CheckPromise, RepairPromise}
 use Rattle.vcdu_header.proofs.Bytes.{symbols-word, symbols-placed, placed-self, checks-placed}
 
@@ -77,39 +71,29 @@ module _ (h : List ℕ) (bytes : (i : ℕ) → get_or h i 0 < 256) where
       stays i l = get_or-set_other (set h 6 (z / 256)) 7 i (z % 256) 0 (omega arith) ∙ get_or-set_other h 6 i (z / 256) 0 (omega arith)
 
   -- ---- check
-  verdict-values : (t : Bool) → check_values (verdict t) ≡ told t
-  verdict-values true = refl
-  verdict-values false = refl
-
-  check_promise : (r : Checked) → r ≡ answered checked.Refused (header_lines h) (verdict (eqb left 0)) → CheckPromise h r
+  check_promise : (r : Result Bool Refusal) → r ≡ answered Err (header_lines h) (Ok (eqb left 0)) → CheckPromise h r
   check_promise r e =
       record {
         word = eqb left 0;
         if_yes = λ t. repairing.is_code x (eqb-true left 0 t);
         if_word = λ g. eq-eqb left 0 (repairing.is_clean x g);
-        values =
-            ap check_values e ∙ answered-of check_values checked.Refused (header_lines h) (verdict (eqb left 0))
-            ∙ ap (answered unchecked (header_lines h)) (verdict-values (eqb left 0));
-        answer = e;
+        answers = told (header_lines h) (eqb left 0) r e;
       }
 
-  pub check_refused : (length h ≡ 8 → ⊥) → CheckPromise h (checked.Refused 22)
+  pub check_refused : (length h ≡ 8 → ⊥) → CheckPromise h (Err NotAHeader)
   check_refused other = check_promise _ (rw (ne_eqb (length h) 8 other))
 
   module _ (n s : ℕ) (eight : length h ≡ 8) (p : symbols_of 10 n ≡ symbols h) (e : s ≡ combined syndromes (symbols_of 10 n)) where
     is_left : s ≡ left
     is_left = e ∙ ap (combined syndromes) p
 
-    pub check_good : s ≡ 0 → CheckPromise h checked.Good
-    check_good z = check_promise _ (rw (eq-eqb (length h) 8 eight, eq-eqb left 0 (sym is_left ∙ z)))
-
-    pub check_bad : (s ≡ 0 → ⊥) → CheckPromise h checked.Bad
-    check_bad other = check_promise _ (rw (eq-eqb (length h) 8 eight, ne_eqb left 0 (λ z. other (is_left ∙ z))))
+    pub check_told : CheckPromise h (Ok (eqb s 0))
+    check_told = check_promise _ (rw (eq-eqb (length h) 8 eight, is_left))
 
   -- ---- repair
   module _ (near : Option (List ℕ)) (nearest : Near (symbols h) near) where
-    abbrev answer_is : Repaired → Type 0
-    answer_is r = r ≡ answered repaired.Refused (repair_lines h near) (repaired.Corrected (changes (symbols h) near))
+    abbrev answer_is : Result ℕ Refusal → Type 0
+    answer_is r = r ≡ answered Err (repair_lines h near) (Ok (changes (symbols h) near))
 
     abbrev after_is : List ℕ → Type 0
     after_is after = after ≡ answered (λ n. h) (repair_lines h near) (restored h near)
@@ -134,27 +118,26 @@ module _ (h : List ℕ) (bytes : (i : ℕ) → get_or h i 0 < 256) where
     counter-after false true = refl
     counter-after false false = counter-restored
 
-    symbols-after : (long lost : Bool) (c : List ℕ) → (cond long (unrepaired 22) (cond lost (unrepaired 23) (counted (changes (symbols h) near)))).number ≡ 0
+    symbols-after : (long lost : Bool) (c : List ℕ) → ◌≡◌ {A = ℕ} (cond long 22 (cond lost 23 0)) 0
         → near ≡ some c → symbols (cond long h (cond lost h (restored h near))) ≡ c
     symbols-after true lost c z e = absurd (omega arith)
     symbols-after false true c z e = absurd (omega arith)
     symbols-after false false c z e = symbols-restored c e
 
-    repair_promise : (after : List ℕ) (r : Repaired) → answer_is r → after_is after → RepairPromise h after r
+    repair_promise : (after : List ℕ) (r : Result ℕ Refusal) → answer_is r → after_is after → RepairPromise h after r
     repair_promise after r e f =
-        let values = ap repair_values e ∙ answered-of repair_values repaired.Refused (repair_lines h near) (repaired.Corrected (changes (symbols h) near)) in
+        let answers = told (repair_lines h near) (changes (symbols h) near) r e in
         let long = not (eqb (length h) 8) in
         record {
           near = near;
           nearest = nearest;
-          values = values;
-          answer = e;
+          answers = answers;
           after_is = f;
-          symbols-after = λ c z o. ap symbols f ∙ symbols-after long (is_none near) c (sym (ap (λ v. v.number) values) ∙ z) o;
+          symbols-after = λ c z o. ap symbols f ∙ symbols-after long (is_none near) c (sym answers.refusal_is ∙ z) o;
           counter_stays = ap counter f ∙ counter-after long (is_none near);
         }
 
-  pub repair_refused : (length h ≡ 8 → ⊥) → RepairPromise h h (repaired.Refused 22)
+  pub repair_refused : (length h ≡ 8 → ⊥) → RepairPromise h h (Err NotAHeader)
   repair_refused other =
       let o = repairing.outcome x in
       repair_promise o.near o.nearest h _ (rw (ne_eqb (length h) 8 other)) (rw (ne_eqb (length h) 8 other))
@@ -163,26 +146,26 @@ module _ (h : List ℕ) (bytes : (i : ℕ) → get_or h i 0 < 256) where
     is_syndrome : s ≡ left
     is_syndrome = e ∙ ap (combined syndromes) p
 
-    pub repair_clean : s ≡ 0 → RepairPromise h h (repaired.Corrected 0)
+    pub repair_clean : s ≡ 0 → RepairPromise h h (Ok 0)
     repair_clean z =
         repair_promise (some (symbols h)) (repairing.itself x (sym is_syndrome ∙ z)) h _
-        (rw (eq-eqb (length h) 8 eight) (ap repaired.Corrected (sym (distance_self (symbols h)))))
+        (rw (eq-eqb (length h) 8 eight) (ap Ok (sym (distance_self (symbols h)))))
         (rw (eq-eqb (length h) 8 eight) (sym (placed-self h eight)))
 
     module _ (errors : ℕ) (found : errors ≡ located s) where
       is_located : errors ≡ located left
       is_located = found ∙ ap located is_syndrome
 
-      lost : Near (symbols h) none → RepairPromise h h (repaired.Refused 23)
+      lost : Near (symbols h) none → RepairPromise h h (Err NoCodeWord)
       lost none-near = repair_promise none none-near h _ (rw (eq-eqb (length h) 8 eight)) (rw (eq-eqb (length h) 8 eight))
 
       module _ (t : ℕ) (et : t ≡ combined syndromes (symbols_of 10 errors)) where
-        pub repair_unlike : (t ≡ s → ⊥) → RepairPromise h h (repaired.Refused 23)
+        pub repair_unlike : (t ≡ s → ⊥) → RepairPromise h h (Err NoCodeWord)
         repair_unlike other =
             lost (repairing.unlike x (λ same. other (et ∙ ap (λ (k : ℕ). combined syndromes (symbols_of 10 k)) is_located ∙ same ∙ sym is_syndrome)))
 
         pub repair_done : t ≡ s → (after : List ℕ) (count : ℕ) → after ≡ put_after (symbols_of 10 (n ⊕ errors)) h → count ≡ weight (symbols_of 10 errors)
-            → RepairPromise h after (repaired.Corrected count)
+            → RepairPromise h after (Ok count)
         repair_done same after count ea ec =
             let alike : combined syndromes (symbols_of 10 errors) ≡ left = sym et ∙ same ∙ is_syndrome in
             let light : weight (symbols_of 10 errors) ≤ 2 =
@@ -190,5 +173,5 @@ module _ (h : List ℕ) (bytes : (i : ℕ) → get_or h i 0 < 256) where
             let c = add (symbols h) (symbols_of 10 errors) in
             let sum : symbols_of 10 (n ⊕ errors) ≡ c = symbols-sum 10 n errors ∙ ap (λ (w : List ℕ). add w (symbols_of 10 errors)) p in
             repair_promise (some c) (repairing.repaired x errors alike light) after _
-            (rw (eq-eqb (length h) 8 eight) (ap repaired.Corrected (ec ∙ sym (repairing.changed x errors alike))))
+            (rw (eq-eqb (length h) 8 eight) (ap Ok (ec ∙ sym (repairing.changed x errors alike))))
             (rw (eq-eqb (length h) 8 eight) (ea ∙ sym (put-header (symbols_of 10 (n ⊕ errors)) h eight) ∙ ap (λ (w : List ℕ). placed w h) sum))

@@ -1,27 +1,26 @@
-// Runs the entries over VCDU headers on the records of standard input and writes a line for each: what tests/vcdu_vectors.py makes, with the
-// answers that it worked out by other means.
+// Runs the entries over VCDU headers on the records of standard input and writes a line for each:
+// what tests/vcdu_vectors.py makes, with the answers that it worked out by other means.
 #![tactic(auto)]
 
 mod sweep;
 
+use base::refusal;
+use base::refusal::Refusal;
 use std::io;
 use std::io::Input;
-use vcdu_header::{Checked, Repaired};
 use vectors::{field, number, put};
 
 fn main(rt: HostRuntime) -> io::Result<()> {
-    let mut left = vectors::MOST_RECORDS;
-    while left > 0 {
+    for _ in 0..vectors::MOST_RECORDS {
         if !turn(&rt)? {
             return Ok(());
         }
-        left -= 1;
     }
     Ok(())
 }
 
-// Reads a record and runs it; false at the end of the input. A record: the operation, how many bytes are lent, and sixteen bytes, of which
-// the first are lent.
+// Reads a record and runs it; false at the end of the input. A record: the operation, how many bytes
+// are lent, and sixteen bytes, of which the first are lent.
 fn turn(rt: &(impl Input + Print)) -> io::Result<bool> {
     let mut record = [0u8; 18];
     if !vectors::filled(rt, &mut record) {
@@ -39,7 +38,8 @@ fn turn(rt: &(impl Input + Print)) -> io::Result<bool> {
 fn run(rt: &impl Print, operation: u8, header: &mut [u8]) -> io::Result<()> {
     match operation {
         1 => {
-            field(rt, b"encoded ", vcdu_header::encode(header) as u64)?;
+            let code = refusal::code(vcdu_header::encode(header));
+            field(rt, b"encoded ", u64::from(code))?;
             put_header(rt, header)
         }
         2 => put_checked(rt, vcdu_header::check(header)),
@@ -60,17 +60,17 @@ fn put_header(rt: &impl Print, header: &[u8]) -> io::Result<()> {
     put(rt, b"\n")
 }
 
-fn put_checked(rt: &impl Print, checked: Checked) -> io::Result<()> {
+fn put_checked(rt: &impl Print, checked: Result<bool, Refusal>) -> io::Result<()> {
     match checked {
-        Checked::Good => put(rt, b"good\n"),
-        Checked::Bad => put(rt, b"bad\n"),
-        Checked::Refused(r) => vectors::put_refusal(rt, r),
+        Ok(true) => put(rt, b"good\n"),
+        Ok(false) => put(rt, b"bad\n"),
+        Err(r) => vectors::put_refusal(rt, r.number()),
     }
 }
 
-fn put_repaired(rt: &impl Print, repaired: Repaired) -> io::Result<()> {
+fn put_repaired(rt: &impl Print, repaired: Result<u64, Refusal>) -> io::Result<()> {
     match repaired {
-        Repaired::Corrected(n) => field(rt, b"corrected ", n),
-        Repaired::Refused(r) => field(rt, b"refused ", r as u64),
+        Ok(n) => field(rt, b"corrected ", n),
+        Err(r) => field(rt, b"refused ", u64::from(r.number())),
     }
 }

@@ -1,7 +1,7 @@
 // All ways in which at most two symbols of a header can be wrong, repaired one after the other.
 ghost use Rattle.std.specs.Prelude.{◌≡◌, ◌<◌, length};
 
-use vcdu_header::Repaired;
+use base::refusal::Refusal;
 use vectors::mix;
 
 // Two places of ten and what is wrong at each: 10 × 16 × 10 × 16.
@@ -13,10 +13,8 @@ pub fn all(header: &[u8]) -> u64 {
         return 0;
     }
     let mut sum: u64 = 0;
-    let mut way: u64 = 0;
-    while way < WAYS {
+    for way in 0..WAYS {
         sum = one(header, way, sum);
-        way += 1;
     }
     sum
 }
@@ -56,9 +54,9 @@ fn byte_of(n: u64) -> usize
     n as usize + 3
 }
 
-fn told(answer: Repaired) -> u64 {
+fn told(answer: Result<u64, Refusal>) -> u64 {
     match answer {
-        Repaired::Corrected(n) => n,
-        Repaired::Refused(r) => 100 + r as u64,
+        Ok(n) => n,
+        Err(r) => 100 + u64::from(r.number()),
     }
 }

@@ -1,8 +1,8 @@
--- `vcdu_header::check` meets its contract on each of its three ways out. Assumes nothing.
+-- `vcdu_header::check` meets its contract on each of its two ways out. Assumes nothing.
 use Prim.Native.Nat.{ℕ, ◌<◌}
 use native.Mathlib.Omega.{arith}
 use lib.ListN.{get_or}
-use Rattle.vcdu_header.proofs.Promises.{check_refused, check_good, check_bad}
+use Rattle.vcdu_header.proofs.Promises.{check_refused, check_told}
 use Rattle.vcdu_header.proofs.check.Goals as goal
 
 pub returns-then-header-ne-HEADER : goal.returns-then-header-ne-HEADER
@@ -11,14 +11,8 @@ returns-then-header-ne-HEADER c =
     let bytes : (i : ℕ) → get_or header i 0 < 256 = λ i. omega (arith, c.type_inv.header i) in
     check_refused header bytes c.if-header-ne-HEADER.true
 
-pub returns-then-syndrome-eq0 : goal.returns-then-syndrome-eq0
-returns-then-syndrome-eq0 c =
-    let header = c.args.header.now in
-    let bytes : (i : ℕ) → get_or header i 0 < 256 = λ i. omega (arith, c.type_inv.header i) in
-    check_good header bytes _ _ c.if-header-ne-HEADER.false c.pack-word.ensures c.syndrome.ensures c.if-syndrome-eq0.true
-
 pub returns : goal.returns
 returns c =
     let header = c.args.header.now in
     let bytes : (i : ℕ) → get_or header i 0 < 256 = λ i. omega (arith, c.type_inv.header i) in
-    check_bad header bytes _ _ c.if-header-ne-HEADER.false c.pack-word.ensures c.syndrome.ensures c.if-syndrome-eq0.false
+    check_told header bytes _ _ c.if-header-ne-HEADER.false c.pack-word.ensures c.syndrome.ensures

@@ -1,12 +1,15 @@
 -- `frame_api::headers::pcd_check_header` meets its contract: each arm is a case of the answer. Assumes nothing.
-use Rattle.frame_api.proofs.HeaderCrossed.{check_crossed}
+use Rattle.std.proofs.Common.{sym, ap, ◌∙◌}
+use Rattle.base.specs.Refusals.{number_of}
+use Rattle.frame_api.proofs.HeaderCrossed.{checked_or, check_crossed}
 use Rattle.frame_api.proofs.headers.pcd_check_header.Goals as goal
 
-pub returns-in-Good : goal.returns-in-Good
-returns-in-Good c = check_crossed _ _ _ _ c.check.ensures c.in-Good.is
+pub returns-in-Ok : goal.returns-in-Ok
+returns-in-Ok c =
+    check_crossed c.check.ensures (ap number_of (sym c.in-Ok.is))
+    (c.from.ensures ∙ ap (checked_or c.args.out.now) (sym c.in-Ok.is))
 
-pub returns-in-Bad : goal.returns-in-Bad
-returns-in-Bad c = check_crossed _ _ _ _ c.check.ensures c.in-Bad.is
-
-pub returns-in-Refused : goal.returns-in-Refused
-returns-in-Refused c = check_crossed _ _ _ _ c.check.ensures c.in-Refused.is
+pub returns-in-Err : goal.returns-in-Err
+returns-in-Err c =
+    check_crossed c.check.ensures (c.number.ensures ∙ ap number_of (sym c.in-Err.is))
+    (ap (checked_or c.args.out.now) (sym c.in-Err.is))
