@@ -1,7 +1,8 @@
 -- The reader's entries as they cross to another language: a tally is its numbers, and the frame beside them. Definitions only.
 use Rattle.std.specs.Prelude.{◌≡◌, cond, not, List, [], ◌∷◌, ℕ, eqb}
 use Rattle.base.specs.Lists.{one}
-use Rattle.base.specs.Refusal.{◌when◌, answered}
+use Rattle.base.specs.Refusals.{◌when◌, answered, number}
+use Rattle.base.specs.declared.refusal.Refusal.TheVariants.{NotInOrder}
 use Rattle.labelling.specs.declared.Tally.{Tally}
 use Rattle.labelling.specs.Machine.{fresh}
 use Rattle.labelling.specs.Once.{fresh_refusal, rule_given}
@@ -31,7 +32,7 @@ call_of l piece = record { tally = tally_of l.numbers l.frame; piece = piece; ar
 
 -- numbers that are no tally's are not in order: 1, before the lines of the reader's call, of which 1 is the first too
 unfoldable pub take_refused : Lent → List ℕ → ℕ
-take_refused l piece = answered (λ n. n) (1 when not (is_tally l.numbers) ∷ []) (take_refusal (call_of l piece))
+take_refused l piece = answered number (NotInOrder when not (is_tally l.numbers) ∷ []) (take_refusal (call_of l piece))
 
 -- an answer as it crosses: the tally, the area, the bytes taken and whether a major frame is complete
 abbrev pub written : Answer → Lent
@@ -62,7 +63,7 @@ duty_call_of l k = record { tally = tally_of l.numbers l.frame; operator = k }
 
 -- numbers that are no tally's are not in order, as in `take_refused`
 unfoldable pub duty_refused : Places → ℕ → ℕ
-duty_refused l k = answered (λ n. n) (1 when not (is_tally l.numbers) ∷ []) (duty_refusal (duty_call_of l k))
+duty_refused l k = answered number (NotInOrder when not (is_tally l.numbers) ∷ []) (duty_refusal (duty_call_of l k))
 
 -- what is left: the tally answered, and after a refusal all as it was
 abbrev pub tally_places : Tally → Places

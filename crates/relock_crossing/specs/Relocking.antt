@@ -1,7 +1,8 @@
 -- A step that locks on a frame's own sync, as it crosses: the feeder is the numbers of its tally, and two beside them. Definitions only.
 use Rattle.std.specs.Prelude.{◌≡◌, Bool, true, false, cond, not, ◌&&◌, ◌||◌, List, [], ◌∷◌, ℕ, ◌+◌, ◌/◌, ◌^◌, ◌≤◌, eqb, ltb, length, get_or}
 use Rattle.base.specs.Lists.{one}
-use Rattle.base.specs.Refusal.{◌when◌, answered}
+use Rattle.base.specs.Refusals.{◌when◌, answered, number}
+use Rattle.base.specs.declared.refusal.Refusal.TheVariants.{NotInOrder}
 use Rattle.labelling.specs.declared.Tally.{Tally}
 use Rattle.relocking.specs.declared.Feeder.{Feeder}
 use Rattle.relocking.specs.declared.Relocked.{Relocked}
@@ -35,7 +36,7 @@ feeder_in l = feeder_of l.numbers l.frame l.feeder
 -- numbers that are no feeder's are not in order: 1, before the lines of the step, of which 1 is the first too; from the lengths of the piece and of
 -- the area
 abbrev pub refused_by : List ℕ → List ℕ → List ℕ → ℕ → ℕ → ℕ
-refused_by n frame feeder piece area = answered (λ n. n) (1 when not (is_feeder n feeder) ∷ []) (relock_refusal (feeder_of n frame feeder) piece area)
+refused_by n frame feeder piece area = answered number (NotInOrder when not (is_feeder n feeder) ∷ []) (relock_refusal (feeder_of n frame feeder) piece area)
 
 unfoldable pub relock_refused : LentFeeder → List ℕ → ℕ
 relock_refused l piece = refused_by l.numbers l.frame l.feeder (length piece) (length l.area)

@@ -1,7 +1,8 @@
 -- What a step that locks on a frame's own sync promises. Definitions only.
 use Rattle.std.specs.Prelude.{◌≡◌, Bool, true, false, cond, ◌&&◌, ◌||◌, not, List, [], ◌∷◌, ℕ, suc, ◌+◌, ◌/◌, ◌^◌, ◌≤◌, ◌<◌, eqb, leb, ltb, length, get_or, take}
 use Rattle.base.specs.Format.{SYNC, sync_word, major_frame}
-use Rattle.base.specs.Refusal.{◌when◌, refusal}
+use Rattle.base.specs.Refusals.{◌when◌, refusal}
+use Rattle.base.specs.declared.refusal.Refusal.TheVariants.{NotInOrder, WrongLength, TooManyBytes}
 use Rattle.labelling.specs.declared.Tally.{Tally}
 use Rattle.labelling.specs.Words.{Vote}
 use Rattle.labelling.specs.Votes.{rule_vote}
@@ -32,7 +33,7 @@ feeder_in_order f = in_order f.tally && (not f.awaits || stands_at_lock f.tally)
 -- the lengths of the piece and of the area; after the whole piece a lead-in must still fit into 2^40
 unfoldable pub relock_refusal : Feeder → ℕ → ℕ → ℕ
 relock_refusal f piece area =
-    refusal (1 when not (feeder_in_order f) ∷ 2 when not (eqb area major_frame) ∷ 3 when ltb (2 ^ 40) (f.tally.groups.bytes + piece + 12) ∷ [])
+    refusal (NotInOrder when not (feeder_in_order f) ∷ WrongLength when not (eqb area major_frame) ∷ TooManyBytes when ltb (2 ^ 40) (f.tally.groups.bytes + piece + 12) ∷ [])
 
 abbrev pub refused_feeder : Feeder → ℕ → Relocked
 refused_feeder f n = record { refusal = n; taken = 0; complete = false; more = false; feeder = f }

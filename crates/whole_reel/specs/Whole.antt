@@ -1,7 +1,8 @@
 -- The reading of a whole reel by steps that lock on a frame's own sync, and what it promises. Definitions only.
 use Rattle.std.specs.Prelude.{◌≡◌, true, false, cond, not, List, [], ◌∷◌, ℕ, suc, ◌-◌, ◌^◌, ◌≤◌, eqb, ltb, length}
 use Rattle.base.specs.Format.{major_frame}
-use Rattle.base.specs.Refusal.{◌when◌, refusal}
+use Rattle.base.specs.Refusals.{◌when◌, refusal}
+use Rattle.base.specs.declared.refusal.Refusal.TheVariants.{WrongLength, TooManyBytes}
 use Rattle.labelling.specs.Machine.{fresh}
 use Rattle.labelling.specs.Order.{is_rule}
 use Rattle.labelling.specs.Calls.{Call, paid}
@@ -18,7 +19,7 @@ longest = 2 ^ 39 - 12
 
 -- the refusal where a fresh tally is refused n; the lengths of the stream and of the area
 abbrev pub refusal_after : ℕ → ℕ → ℕ → ℕ
-refusal_after n stream area = cond (eqb n 0) (refusal (2 when not (eqb area major_frame) ∷ 3 when ltb longest stream ∷ [])) n
+refusal_after n stream area = cond (eqb n 0) (refusal (WrongLength when not (eqb area major_frame) ∷ TooManyBytes when ltb longest stream ∷ [])) n
 
 -- 15 first
 unfoldable pub read_refusal : ℕ → ℕ → ℕ → ℕ
