@@ -1,13 +1,15 @@
 -- A number as an argument names it. Definitions only.
-use Rattle.std.specs.Prelude.{Bool, true, cond, ◌&&◌, List, [], ◌∷◌, ℕ, ◌+◌, ◌-◌, ◌*◌, leb, ltb, length}
-use Rattle.command.specs.declared.numbers.Parsed.{Parsed}
-use Rattle.command.specs.declared.numbers.Parsed.TheVariants.{Value, NotANumber}
+use Rattle.std.specs.Prelude.{Bool, true, cond, ◌&&◌, List, [], ◌∷◌, ℕ, ◌+◌, ◌-◌, ◌*◌, leb, ltb, length, Option, Some, None}
 
 abbrev pub is_digit : ℕ → Bool
 is_digit b = leb 48 b && leb b 57
 
 abbrev pub digit_of : ℕ → ℕ
 digit_of b = cond (is_digit b) (b - 48) 0
+
+-- what a byte counts that is a digit
+abbrev pub digit_in : ℕ → Option ℕ
+digit_in b = cond (is_digit b) (Some (digit_of b)) None
 
 unfoldable pub all_digits : List ℕ → Bool
 all_digits [] = true
@@ -19,5 +21,5 @@ grown n [] = n
 grown n (b ∷ bs) = grown (n * 10 + digit_of b) bs
 
 -- 1 to 19 decimal digits, and nothing else
-abbrev pub number_in : List ℕ → Parsed
-number_in text = cond (ltb 0 (length text) && leb (length text) 19 && all_digits text) (Value (grown 0 text)) NotANumber
+abbrev pub number_in : List ℕ → Option ℕ
+number_in text = cond (ltb 0 (length text) && leb (length text) 19 && all_digits text) (Some (grown 0 text)) None

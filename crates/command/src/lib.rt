@@ -17,7 +17,7 @@ pub use books::{Begun, LARGE_ROOM, Room, SMALL_ROOM, begin_book, read_book};
 pub use ending::end;
 pub use files::{Filled, fill, open};
 pub use lines::line;
-pub use numbers::{Parsed, number};
+pub use numbers::number;
 pub use saying::{ErrorOutput, fail, refuse, say, show, write_error};
 pub use text::{put, put_byte, put_field, put_joined, put_number};
 pub use words::{put_meaning, put_words};

@@ -9,7 +9,7 @@ mod writing;
 ghost use Rattle.std.specs.Prelude.{length};
 ghost use Rattle.pcd_book.specs.Shelves.{Roomy, Bound};
 
-use command::{ErrorOutput, LARGE_ROOM, Parsed, SMALL_ROOM};
+use command::{ErrorOutput, LARGE_ROOM, SMALL_ROOM};
 use cycle::CYCLE;
 use std::io::Input;
 use std::rt::Env;
@@ -51,8 +51,8 @@ fn few_at(rt: &impl Env, i: usize) -> bool {
     let mut word = [0u8; 64];
     let n = command::argument(rt, i, &mut word);
     match command::number(&word[..n]) {
-        Parsed::Value(cycles) => cycles <= SMALL_CYCLES,
-        Parsed::NotANumber => true,
+        Some(cycles) => cycles <= SMALL_CYCLES,
+        None => true,
     }
 }
 

@@ -4,7 +4,7 @@
 
 mod answer;
 
-use command::{ErrorOutput, LARGE_ROOM, Parsed, Room, SMALL_ROOM};
+use command::{ErrorOutput, LARGE_ROOM, Room, SMALL_ROOM};
 use std::io::Read;
 use std::rt::{Env, Files};
 
@@ -92,19 +92,19 @@ fn find(
     }
     let n = got.length;
     match instant_of(rt, asked) {
-        Parsed::Value(wanted) => answer::report(rt, path, &room[..n], wanted),
-        Parsed::NotANumber => false,
+        Some(wanted) => answer::report(rt, path, &room[..n], wanted),
+        None => false,
     }
 }
 
 // The number that an argument is; a line says where it is none.
-fn instant_of(rt: &(impl Env + ErrorOutput), i: usize) -> Parsed {
+fn instant_of(rt: &(impl Env + ErrorOutput), i: usize) -> Option<u64> {
     let mut word = [0u8; 64];
     let n = command::argument(rt, i, &mut word);
     let parsed = command::number(&word[..n]);
     match parsed {
-        Parsed::Value(_) => (),
-        Parsed::NotANumber => command::say(
+        Some(_) => (),
+        None => command::say(
             rt,
             b"pcd-find",
             &word[..n],

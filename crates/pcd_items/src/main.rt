@@ -6,7 +6,7 @@
 ghost use Rattle.io.specs.Counts.{IsPrefixLen};
 
 use base::{format, refusal};
-use command::{ErrorOutput, Parsed};
+use command::ErrorOutput;
 use std::io::Read;
 use std::rt::Env;
 
@@ -33,8 +33,8 @@ fn show_all<R: Env + std::io::Input + Print + ErrorOutput>(rt: &R) -> bool {
     let mut word = [0u8; 64];
     let n = command::argument(rt, 2, &mut word);
     match command::number(&word[..n]) {
-        Parsed::Value(year) => show_year(rt, year, &word[..n]),
-        Parsed::NotANumber => {
+        Some(year) => show_year(rt, year, &word[..n]),
+        None => {
             command::say(
                 rt,
                 b"pcd-items",

@@ -6,7 +6,7 @@ ghost use Rattle.command.specs.Text.{Adds};
 ghost use Rattle.io.specs.Counts.{IsPrefixLen};
 ghost use Rattle.shifts.specs.Lines.{fault_text};
 
-use command::{ErrorOutput, Parsed, put, put_field};
+use command::{ErrorOutput, put, put_field};
 use shift_line::{
     LIMIT, NO_OPERATOR, NOT_RISING, NOT_TWO_NUMBERS, Shift, TOO_FAR, shift_of, wrong,
 };
@@ -137,24 +137,9 @@ fn parse(line: &[u8], least: u64) -> Shift {
     let rest = i + 1;
     let begin = command::number(&line[..i]);
     let operator = command::number(&line[rest..]);
-    match begin {
-        Parsed::NotANumber => {
-            return wrong(NOT_TWO_NUMBERS);
-        }
-        Parsed::Value(b) => {
-            return parsed(b, operator, least);
-        }
-    }
-}
-
-fn parsed(begin: u64, operator: Parsed, least: u64) -> Shift {
-    match operator {
-        Parsed::NotANumber => {
-            return wrong(NOT_TWO_NUMBERS);
-        }
-        Parsed::Value(o) => {
-            return shift_of(begin, o, least);
-        }
+    match (begin, operator) {
+        (Some(b), Some(o)) => shift_of(b, o, least),
+        _ => wrong(NOT_TWO_NUMBERS),
     }
 }
 

@@ -1,14 +1,12 @@
 -- The year that a word names. Definitions only.
-use Rattle.std.specs.Prelude.{◌≡◌, true, cond, List, ℕ}
+use Rattle.std.specs.Prelude.{◌≡◌, true, cond, List, ℕ, Option, Some, None}
 use Rattle.command.specs.Numbers.{number_in}
-use Rattle.command.specs.declared.numbers.Parsed.{Parsed}
-use Rattle.command.specs.declared.numbers.Parsed.TheVariants.{Value, NotANumber}
 use Rattle.time_code.specs.Calendar.{in_span}
 
 -- a number of the span, else 0
-abbrev pub year_of : Parsed → ℕ
-year_of (Value n) = cond (in_span n) n 0
-year_of NotANumber = 0
+abbrev pub year_of : Option ℕ → ℕ
+year_of (Some n) = cond (in_span n) n 0
+year_of None = 0
 
 unfoldable pub year_in : List ℕ → ℕ
 year_in word = year_of (number_in word)

@@ -4,7 +4,7 @@
 ghost use Rattle.std.specs.Prelude.{◌≡◌};
 ghost use Rattle.year_argument.specs.Years.{YearPromise, year_in};
 
-use command::{ErrorOutput, Parsed};
+use command::ErrorOutput;
 use std::rt::Env;
 
 const WORD: usize = 64;
@@ -22,14 +22,14 @@ fn year_in(rt: &impl ErrorOutput, program: &[u8], word: &[u8]) -> u64
     ensures { result ≡ year_in word.now }
 {
     match command::number(word) {
-        Parsed::Value(year) => {
+        Some(year) => {
             if time_code::year::in_span(year) {
                 return year;
             }
             say_no_year(rt, program, word);
             return 0;
         }
-        Parsed::NotANumber => {
+        None => {
             say_no_year(rt, program, word);
             return 0;
         }

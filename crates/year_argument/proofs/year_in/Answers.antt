@@ -7,15 +7,15 @@ use Rattle.year_argument.proofs.year_in.Goals as goal
 pub returns-then-in_span : goal.returns-then-in_span
 unfolding year_in
 returns-then-in_span g c =
-    let named = sym c.in-Value.ensures in
+    let named = sym c.in-Some.ensures in
     rw named (in_span-year _ (sym c.in_span.ensures ∙ c.if-in_span.true))
 
-pub returns-in-Value : goal.returns-in-Value
+pub returns-in-Some : goal.returns-in-Some
 unfolding year_in
-returns-in-Value g c =
-    let named = sym c.in-Value.ensures in
+returns-in-Some g c =
+    let named = sym c.in-Some.ensures in
     rw named (outside-year _ (sym c.in_span.ensures ∙ c.if-in_span.false))
 
-pub returns-in-NotANumber : goal.returns-in-NotANumber
+pub returns-in-None : goal.returns-in-None
 unfolding year_in
-returns-in-NotANumber g c = rw (sym c.in-NotANumber.ensures)
+returns-in-None g c = rw (sym c.in-None.ensures)
