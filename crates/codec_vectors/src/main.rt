@@ -4,6 +4,7 @@
 
 ghost use Rattle.std.specs.Prelude.{◌≤◌, length};
 
+use base::refusal;
 use std::io;
 use std::io::Input;
 use time_code::TimeCode;
@@ -64,8 +65,8 @@ fn run(rt: &impl Print, record: &[u8]) -> io::Result<bool> {
 
 fn read_time(rt: &impl Print, year: u64, bytes: &[u8]) -> io::Result<()> {
     match time_code::decode(year, bytes) {
-        time_code::Decoded::Time(t) => vectors::put_time(rt, t.spacecraft, t.instant),
-        time_code::Decoded::Refused(r) => vectors::put_refusal(rt, r),
+        Ok(t) => vectors::put_time(rt, t.spacecraft, t.instant),
+        Err(r) => vectors::put_refusal(rt, r.number()),
     }
 }
 
@@ -79,14 +80,14 @@ fn write_time(rt: &impl Print, year: u64, operands: &[u8], n: usize) -> io::Resu
     };
     let mut space = [0xA5u8; 22];
     let out = &mut space[0..n];
-    let answer = time_code::encode(year, t, out);
+    let answer = refusal::code(time_code::encode(year, t, out));
     written(rt, out, answer)
 }
 
 fn read_number(rt: &impl Print, bytes: &[u8]) -> io::Result<()> {
     match float1750::decode(bytes) {
-        float1750::Decoded::Number(x) => vectors::put_double(rt, x),
-        float1750::Decoded::Refused(r) => vectors::put_refusal(rt, r),
+        Ok(x) => vectors::put_double(rt, x),
+        Err(r) => vectors::put_refusal(rt, r.number()),
     }
 }
 
@@ -97,7 +98,7 @@ fn write_number(rt: &impl Print, operands: &[u8], n: usize) -> io::Result<()>
     let x = double(number(&operands[0..8]));
     let mut space = [0xA5u8; 22];
     let out = &mut space[0..n];
-    let answer = float1750::encode(x, out);
+    let answer = refusal::code(float1750::encode(x, out));
     written(rt, out, answer)
 }
 

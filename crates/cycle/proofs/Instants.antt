@@ -15,8 +15,9 @@ use Rattle.base.specs.Rows.{row}
 use Rattle.time_code.specs.Calendar.{in_span}
 use Rattle.time_code.specs.Codec.{decoded, time_of}
 use Rattle.time_code.specs.Fields.{day, hour, minute, second, millisecond, sixteenth, decimal, in_range, is_time, instant}
-use Rattle.time_code.specs.declared.Decoded.{Decoded}
-use Rattle.time_code.specs.declared.Decoded.TheVariants as time
+use Rattle.std.proofs.Common.{Result, Ok, Err}
+use Rattle.base.specs.declared.refusal.Refusal.{Refusal}
+use Rattle.time_code.specs.declared.TimeCode.{TimeCode}
 use Rattle.time_code.proofs.Codes.{to-accepted}
 use Rattle.time_fields.proofs.Fields.{Digits, to-digits, InRange, to-range}
 use Rattle.word72_column.specs.Columns.{gathered, bears, timed, column_kind}
@@ -59,7 +60,7 @@ module _ (y : ℕ) (w : List ℕ) (t : T (is_time y w)) where
       bound d h m s ms x r MS X = omega arith
 
 -- ---- the instant that was read
-pub instant-is : (y : ℕ) (body code : List ℕ) (d : Decoded) → code ≡ time_bytes body → d ≡ decoded y code → instant_in d ≡ instant_of y body
+pub instant-is : (y : ℕ) (body code : List ℕ) (d : Result TimeCode Refusal) → code ≡ time_bytes body → d ≡ decoded y code → instant_in d ≡ instant_of y body
 unfolding instant_of
 instant-is y body code d e f = ap instant_in (f ∙ ap (decoded y) e)
 
@@ -67,13 +68,13 @@ pub instant-small : (y : ℕ) (body : List ℕ) → instant_of y body < 2 ^ 40
 unfolding instant_of
 instant-small y body = go (decoded y (time_bytes body)) refl
   where
-    go : (d : Decoded) → decoded y (time_bytes body) ≡ d → instant_in d < 2 ^ 40
-    go (time.Time t) e =
+    go : (d : Result TimeCode Refusal) → decoded y (time_bytes body) ≡ d → instant_in d < 2 ^ 40
+    go (Ok t) e =
         let a = to-accepted y (time_bytes body) t e in
         let f = time_small y (time_bytes body) a.is_time_fact in
         let same = ap (λ (u : _). u.instant) a.is_read in
         omega arith
-    go (time.Refused n) e = omega arith
+    go (Err n) e = omega arith
 
 pub instant-fits : (y : ℕ) (body : List ℕ) → instant_of y body < 256 ^ 8
 instant-fits y body = omega (arith, instant-small y body)
@@ -116,7 +117,7 @@ module _ (y : ℕ) (body : List ℕ) (cycle : is_cycle y body ≡ true) where
   unfolding time_bytes gathered
   seven = refl
 
-  pub cycle_timed : decoded y (time_bytes body) ≡ time.Time (time_of (time_bytes body))
+  pub cycle_timed : decoded y (time_bytes body) ≡ Ok (time_of (time_bytes body))
   unfolding decoded
   cycle_timed = rw (seven, timed-so.0, timed-so.1)
 

@@ -1,13 +1,13 @@
 -- The body of a cycle (02, request 7): four major frames of kinds 0, 1, 2, 3 in order, each minor frame with its sync bytes and its number;
 -- and its instant, that of its kind 0 column. Definitions only.
-use Rattle.std.specs.Prelude.{Bool, false, ◌&&◌, List, ℕ, eqb, length, get_or}
+use Rattle.std.specs.Prelude.{Bool, false, ◌&&◌, List, ℕ, eqb, length, get_or, Result, Ok, Err}
 use Rattle.base.specs.Format.{minor_frame, number_place, major_frame}
 use Rattle.base.specs.Ranges.{each}
 use Rattle.base.specs.Rows.{row}
 use Rattle.labelling.specs.Machine.{synced_bytes}
 use Rattle.time_code.specs.Codec.{decoded}
-use Rattle.time_code.specs.declared.Decoded.{Decoded}
-use Rattle.time_code.specs.declared.Decoded.TheVariants as time
+use Rattle.base.specs.declared.refusal.Refusal.{Refusal}
+use Rattle.time_code.specs.declared.TimeCode.{TimeCode}
 use Rattle.word72_column.specs.Columns.{gathered, between, column_kind}
 use Rattle.word72_column.specs.declared.ColumnKind.{ColumnKind}
 use Rattle.word72_column.specs.declared.ColumnKind.TheVariants as column
@@ -47,9 +47,9 @@ unfoldable pub time_bytes : List ℕ → List ℕ
 time_bytes body = between 96 103 (gathered (row major_frame body 0))
 
 -- the instant that a time code is read as, 0 where it is refused
-abbrev pub instant_in : Decoded → ℕ
-instant_in (time.Time t) = t.instant
-instant_in (time.Refused n) = 0
+abbrev pub instant_in : Result TimeCode Refusal → ℕ
+instant_in (Ok t) = t.instant
+instant_in (Err r) = 0
 
 unfoldable pub instant_of : ℕ → List ℕ → ℕ
 instant_of y body = instant_in (decoded y (time_bytes body))

@@ -39,8 +39,8 @@ pub fn instant(year: u64, body: &[u8]) -> u64
 {
     let code = time_bytes(body);
     match time_code::decode(year, &code) {
-        time_code::Decoded::Time(t) => t.instant,
-        time_code::Decoded::Refused(_) => 0,
+        Ok(t) => t.instant,
+        Err(_) => 0,
     }
 }
 

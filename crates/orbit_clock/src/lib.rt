@@ -36,14 +36,14 @@ fn in_column(column: &[u8]) -> Clock
     ensures { ClockIn column.now result }
 {
     match float1750::decode(&column[28..34]) {
-        float1750::Decoded::Number(updated) => Clock {
+        Ok(updated) => Clock {
             refusal: 0,
             updated: updated,
             bias: count16(column, 36),
             rate: count16(column, 38),
             acceleration: count16(column, 40),
         },
-        float1750::Decoded::Refused(number) => none(number),
+        Err(refusal) => none(refusal.number()),
     }
 }
 

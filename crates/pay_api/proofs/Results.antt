@@ -11,13 +11,14 @@ use lib.ListN.{length}
 use borrow.Author.Tests.{ltb-false}
 use Rattle.base.specs.Refusal.{Line, answered, refusal}
 use Rattle.base.proofs.Refusals.{answered-of, answered-number, answered-append, answered-none}
-use Rattle.time_code.specs.declared.Decoded.{Decoded as TimeDecoded}
-use Rattle.time_code.specs.declared.Decoded.TheVariants.{Time, Refused as NoTime}
-use Rattle.time_code.specs.Codec.{decode_lines as timeLines, decoded as timeDecoded, number_of as timeRefused, time_of}
+use Rattle.std.proofs.Common.{Result, Ok, Err}
+use Rattle.base.specs.declared.refusal.Refusal.{Refusal}
+use Rattle.base.specs.Refusals.{number_of}
+use Rattle.base.proofs.Lines as named
+use Rattle.time_code.specs.declared.TimeCode.{TimeCode}
+use Rattle.time_code.specs.Codec.{decode_lines as timeLines, decoded as timeDecoded, time_of}
 use Rattle.time_code.specs.Promise.{DecodePromise as TimePromise}
-use Rattle.float1750.specs.declared.Decoded.{Decoded as NumberDecoded}
-use Rattle.float1750.specs.declared.Decoded.TheVariants.{Number, Refused as NoNumber}
-use Rattle.float1750.specs.Codec.{decode_lines as numberLines, decoded as numberDecoded, number_of as numberRefused}
+use Rattle.float1750.specs.Codec.{decode_lines as numberLines, decoded as numberDecoded}
 use Rattle.float1750.specs.Double.{bits_of}
 use Rattle.float1750.specs.Promise.{DecodePromise as NumberPromise}
 use Rattle.float1750.specs.Word.{value}
@@ -38,29 +39,29 @@ said {number} {number'} {result} {result'} {r} {old} {new} n e a =
 -- ---- the codecs
 
 -- the instant, or 0
-abbrev pub instant_or0 : TimeDecoded → ℕ
-instant_or0 (Time t) = t.instant
-instant_or0 (NoTime n) = 0
+abbrev pub instant_or0 : Result TimeCode Refusal → ℕ
+instant_or0 (Ok t) = t.instant
+instant_or0 (Err r) = 0
 
-pub instant-answer : {year number result r : ℕ} {bytes old new : List ℕ} {d : TimeDecoded} → TimePromise year bytes d → number ≡ timeRefused d
+pub instant-answer : {year number result r : ℕ} {bytes old new : List ℕ} {d : Result TimeCode Refusal} → TimePromise year bytes d → number ≡ number_of d
     → result ≡ instant_or0 d → Answered number result r old new → InstantAnswer year bytes r old new
 unfolding timeDecoded
 instant-answer {year} {number} {result} {r} {bytes} p n e =
-    said (n ∙ p.refusal_is) (e ∙ ap instant_or0 p.answer ∙ answered-of instant_or0 NoTime (timeLines year bytes) (Time (time_of bytes)))
+    said (n ∙ p.refusal_is) (e ∙ ap instant_or0 p.answer ∙ named.answered-of instant_or0 Err (timeLines year bytes) (Ok (time_of bytes)))
 
 -- the bits, or 0
-abbrev pub bits_or0 : NumberDecoded → ℕ
-bits_or0 (Number x) = bits_of x
-bits_or0 (NoNumber n) = 0
+abbrev pub bits_or0 : Result Float Refusal → ℕ
+bits_or0 (Ok x) = bits_of x
+bits_or0 (Err r) = 0
 
-pub number-answer : {number result r : ℕ} {bytes old new : List ℕ} {d : NumberDecoded} → NumberPromise bytes d → number ≡ numberRefused d
+pub number-answer : {number result r : ℕ} {bytes old new : List ℕ} {d : Result Float Refusal} → NumberPromise bytes d → number ≡ number_of d
     → result ≡ bits_or0 d → Answered number result r old new → NumberAnswer bytes r old new
 unfolding numberDecoded
 number-answer {number} {result} {r} {bytes} p n e =
-    said (n ∙ p.refusal_is) (e ∙ ap bits_or0 p.answer ∙ answered-of bits_or0 NoNumber (numberLines bytes) (Number (value bytes)))
+    said (n ∙ p.refusal_is) (e ∙ ap bits_or0 p.answer ∙ named.answered-of bits_or0 Err (numberLines bytes) (Ok (value bytes)))
 
 -- what a word reads as is no NaN, so its bits can be asked for
-pub has_bits : {bytes : List ℕ} {d : NumberDecoded} {x : Float} → NumberPromise bytes d → d ≡ Number x → T (not (is_nan x))
+pub has_bits : {bytes : List ℕ} {d : Result Float Refusal} {x : Float} → NumberPromise bytes d → d ≡ Ok x → T (not (is_nan x))
 has_bits {bytes} {d} {x} p e = go (ne x x) refl
   where
     go : (b : Bool) → ne x x ≡ b → T (not (is_nan x))

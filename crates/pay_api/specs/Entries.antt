@@ -2,6 +2,7 @@
 -- result. Definitions only.
 use Rattle.std.specs.Prelude.{List, [], ◌++◌, ℕ, ◌+◌, ◌*◌, ◌^◌, ◌<◌}
 use Rattle.base.specs.Refusal.{Line, answered, refusal}
+use Rattle.base.specs.Refusals as named
 use Rattle.labelling.specs.declared.Word.{Word}
 use Rattle.labelling.specs.declared.Word.TheVariants.{Voted, Erased}
 use Rattle.time_code.specs.Codec.{decode_lines as timeLines}
@@ -29,11 +30,17 @@ abbrev pub VoteAnswer : Word → ℕ → List ℕ → List ℕ → Type 0
 VoteAnswer word r old new = Answers [] (word_result word) r old new
 
 -- ---- the codecs
+
+-- the same by lines of named refusals
+abbrev pub NamedAnswers : List named.Line → ℕ → ℕ → List ℕ → List ℕ → Type 0
+NamedAnswers lines result r old new =
+    Answered (named.refusal lines) (named.answered (λ n. 0) lines result) r old new
+
 abbrev pub InstantAnswer : ℕ → List ℕ → ℕ → List ℕ → List ℕ → Type 0
-InstantAnswer year bytes r old new = Answers (timeLines year bytes) (instant bytes) r old new
+InstantAnswer year bytes r old new = NamedAnswers (timeLines year bytes) (instant bytes) r old new
 
 abbrev pub NumberAnswer : List ℕ → ℕ → List ℕ → List ℕ → Type 0
-NumberAnswer bytes r old new = Answers (numberLines bytes) (bits_of (value bytes)) r old new
+NumberAnswer bytes r old new = NamedAnswers (numberLines bytes) (bits_of (value bytes)) r old new
 
 -- ---- the lookup
 

@@ -9,8 +9,8 @@ pub fn pcd_pay_instant(bytes: &[u8], year: u64, answer: &mut [u8]) -> u8
 {
     let d = time_code::decode(year, bytes);
     match d {
-        time_code::Decoded::Time(t) => return answers::put(0, t.instant, answer),
-        time_code::Decoded::Refused(number) => return answers::put(number, 0, answer),
+        Ok(t) => return answers::put(0, t.instant, answer),
+        Err(refusal) => return answers::put(refusal.number(), 0, answer),
     }
 }
 
@@ -20,7 +20,7 @@ pub fn pcd_pay_number(bytes: &[u8], answer: &mut [u8]) -> u8
 {
     let d = float1750::decode(bytes);
     match d {
-        float1750::Decoded::Number(x) => return answers::put(0, f64::to_bits(x), answer),
-        float1750::Decoded::Refused(number) => return answers::put(number, 0, answer),
+        Ok(x) => return answers::put(0, f64::to_bits(x), answer),
+        Err(reason) => return answers::put(reason.number(), 0, answer),
     }
 }

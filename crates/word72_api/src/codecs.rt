@@ -9,12 +9,12 @@ pub fn pcd_decode_time(year: u64, bytes: &[u8], out: &mut [u64; 2]) -> u8
 {
     let d = time_code::decode(year, bytes);
     match d {
-        time_code::Decoded::Time(t) => {
+        Ok(t) => {
             *out = [t.spacecraft, t.instant];
             return 0;
         }
-        time_code::Decoded::Refused(number) => {
-            return number;
+        Err(refusal) => {
+            return refusal.number();
         }
     }
 }
@@ -27,7 +27,7 @@ pub fn pcd_encode_time(year: u64, spacecraft: u64, instant: u64, out: &mut [u8])
         spacecraft: spacecraft,
         instant: instant,
     };
-    time_code::encode(year, t, out)
+    base::refusal::code(time_code::encode(year, t, out))
 }
 
 // Reads a number of MIL-STD-1750.
@@ -36,12 +36,12 @@ pub fn pcd_decode_number(bytes: &[u8], out: &mut f64) -> u8
 {
     let d = float1750::decode(bytes);
     match d {
-        float1750::Decoded::Number(x) => {
+        Ok(x) => {
             *out = x;
             return 0;
         }
-        float1750::Decoded::Refused(number) => {
-            return number;
+        Err(refusal) => {
+            return refusal.number();
         }
     }
 }
@@ -50,5 +50,5 @@ pub fn pcd_decode_number(bytes: &[u8], out: &mut f64) -> u8
 pub fn pcd_encode_number(x: f64, out: &mut [u8]) -> u8
     ensures { NumberWritten x out.old out.new result }
 {
-    float1750::encode(x, out)
+    base::refusal::code(float1750::encode(x, out))
 }

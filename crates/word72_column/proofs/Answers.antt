@@ -7,12 +7,13 @@ use Prim.Native.Nat.{ℕ}
 use native.Mathlib.Omega.{arith}
 use lib.ListN.{length}
 use borrow.Author.Tests.{ne_eqb}
-use Rattle.base.specs.Refusal.{◌when◌, answered}
 use Rattle.base.proofs.Refusals.{answered-of, answered-number}
 use Rattle.time_code.specs.Calendar.{in_span}
 use Rattle.time_code.specs.Codec.{time_of, decoded}
-use Rattle.time_code.specs.declared.Decoded.{Decoded}
-use Rattle.time_code.specs.declared.Decoded.TheVariants as time-answer
+use Rattle.std.proofs.Common.{Result, Ok, Err}
+use Rattle.base.specs.declared.refusal.Refusal as base-refusal
+use Rattle.base.specs.Refusals as lines
+use Rattle.time_code.specs.declared.TimeCode.{TimeCode}
 use Rattle.time_code.specs.Fields.{is_time}
 use Rattle.time_code.proofs.Codes.{of_seven}
 use Rattle.word72_column.specs.declared.ColumnKind.{ColumnKind}
@@ -90,13 +91,13 @@ module _ (y : ℕ) (column : List ℕ) where
       kind_refused_6 t = kind_promise _ (rw (l, s, has_kind_lem, t))
 
 -- ---- whether seven bytes are a time
-abbrev pub accepted : Decoded → Bool
-accepted (time-answer.Time t) = true
-accepted (time-answer.Refused n) = false
+abbrev pub accepted : Result TimeCode base-refusal.Refusal → Bool
+accepted (Ok t) = true
+accepted (Err r) = false
 
 pub time_accepted : (y : ℕ) (bs : List ℕ) → length bs ≡ 7 → in_span y ≡ true → accepted (decoded y bs) ≡ is_time y bs
 time_accepted y bs h s = rw (of_seven y bs h s) (go (is_time y bs))
   where
-    go : (b : Bool) → accepted (answered time-answer.Refused (8 when not b ∷ []) (time-answer.Time (time_of bs))) ≡ b
+    go : (b : Bool) → accepted (lines.answered Err (lines.◌when◌ base-refusal.TheVariants.TimeOutOfRange (not b) ∷ []) (Ok (time_of bs))) ≡ b
     go true = refl
     go false = refl

@@ -118,7 +118,7 @@ fn is_time(year: u64, bytes: &[u8]) -> bool
     ensures { result ≡ is_time year bytes.now }
 {
     match time_code::decode(year, bytes) {
-        time_code::Decoded::Time(_) => true,
-        time_code::Decoded::Refused(_) => false,
+        Ok(_) => true,
+        Err(_) => false,
     }
 }

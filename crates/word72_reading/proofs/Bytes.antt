@@ -9,17 +9,18 @@ use lib.Dec.{T, leb}
 use lib.Ieee.{Float}
 use lib.ListN.{length, get_or}
 use borrow.Author.Tests.{ne_eqb, le-leb, lt-leb}
+use Rattle.std.proofs.Common.{Result, Ok, Err}
 use Rattle.base.specs.Numbers.{big_endian}
+use Rattle.base.specs.declared.refusal.Refusal as papers
+use Rattle.base.specs.Refusals as named
 use Rattle.base.specs.Refusal.{Line, ◌when◌, answered, refusal}
 use Rattle.base.proofs.Refusals.{answered-of, answered-number}
 use Rattle.float1750.specs.Codec as number-codec
-use Rattle.float1750.specs.declared.Decoded as number-answer
 use Rattle.float1750.specs.Double.{Exact}
 use Rattle.float1750.specs.Promise as number-promise
 use Rattle.float1750.specs.Word.{is_zero, normalised}
 use Rattle.time_code.specs.Calendar.{in_span}
 use Rattle.time_code.specs.Codec as time-codec
-use Rattle.time_code.specs.declared.Decoded as time-answer
 use Rattle.time_code.specs.declared.TimeCode.{TimeCode}
 use Rattle.time_code.specs.Fields.{is_time}
 use Rattle.time_code.proofs.Codes.{of_seven}
@@ -136,13 +137,13 @@ module _ (b c : ℕ) where
 
 -- ---- the codecs' answers as readings
 
-abbrev pub of_number : number-answer.Decoded → Reading
-of_number (number-answer.TheVariants.Number v) = Number v
-of_number (number-answer.TheVariants.Refused n) = Refused n
+abbrev pub of_number : Result Float papers.Refusal → Reading
+of_number (Ok v) = Number v
+of_number (Err r) = Refused (named.number r)
 
-abbrev pub of_time : time-answer.Decoded → Reading
-of_time (time-answer.TheVariants.Time t) = Time t
-of_time (time-answer.TheVariants.Refused n) = Refused n
+abbrev pub of_time : Result TimeCode papers.Refusal → Reading
+of_time (Ok t) = Time t
+of_time (Err r) = Refused (named.number r)
 
 module _ (bs : List ℕ) (six : length bs ≡ 6) where
   of_number_lem : (y : ℕ) → of_number (number-codec.decoded bs) ≡ suited_reading y form.Number bs
@@ -153,25 +154,28 @@ module _ (bs : List ℕ) (six : length bs ≡ 6) where
       go true e = rw (six, e)
       go false e = rw (six, e)
 
-  pub number_read : (v : Float) → number-promise.DecodePromise bs (number-answer.TheVariants.Number v) → InAnyYear form.Number bs (Number v)
+  pub number_read : (v : Float) → number-promise.DecodePromise bs (Ok v) → InAnyYear form.Number bs (Number v)
   number_read v p y =
       record { answer = ap of_number p.answer ∙ of_number_lem y; exact = λ u z. let same : v ≡ u = cc in rw same at (p.exact v refl) }
 
-  pub number-refused : (n : ℕ) → number-promise.DecodePromise bs (number-answer.TheVariants.Refused n) → InAnyYear form.Number bs (Refused n)
-  number-refused n p y = record { answer = ap of_number p.answer ∙ of_number_lem y; exact = no_number bs (Refused n) refl }
+  pub number-refused : (r : papers.Refusal) → number-promise.DecodePromise bs (Err r)
+      → InAnyYear form.Number bs (Refused (named.number r))
+  number-refused r p y =
+      record { answer = ap of_number p.answer ∙ of_number_lem y; exact = no_number bs (Refused (named.number r)) refl }
 
 module _ (y : ℕ) (bs : List ℕ) (span : in_span y ≡ true) (seven : length bs ≡ 7) where
   of_time_lem : of_time (time-codec.decoded y bs) ≡ suited_reading y form.Time bs
   of_time_lem = rw (of_seven y bs seven span) (go (is_time y bs))
     where
-      go : (b : Bool) → let ls = 8 when not b ∷ [] in
-          of_time (answered time-answer.TheVariants.Refused ls (time-answer.TheVariants.Time (time-codec.time_of bs)))
-          ≡ answered Refused ls (reading_of (value_of form.Time bs))
+      go : (b : Bool) → let ls = named.◌when◌ papers.TheVariants.TimeOutOfRange (not b) ∷ [] in
+          of_time (named.answered Err ls (Ok (time-codec.time_of bs)))
+          ≡ answered Refused (8 when not b ∷ []) (reading_of (value_of form.Time bs))
       go true = refl
       go false = refl
 
-  pub time_read : (t : TimeCode) → time-answer.TheVariants.Time t ≡ time-codec.decoded y bs → SuitedPromise y form.Time bs (Time t)
+  pub time_read : (t : TimeCode) → Ok t ≡ time-codec.decoded y bs → SuitedPromise y form.Time bs (Time t)
   time_read t e = record { answer = ap of_time e ∙ of_time_lem; exact = no_number bs (Time t) refl }
 
-  pub time_refused : (n : ℕ) → time-answer.TheVariants.Refused n ≡ time-codec.decoded y bs → SuitedPromise y form.Time bs (Refused n)
-  time_refused n e = record { answer = ap of_time e ∙ of_time_lem; exact = no_number bs (Refused n) refl }
+  pub time_refused : (r : papers.Refusal) → Err r ≡ time-codec.decoded y bs
+      → SuitedPromise y form.Time bs (Refused (named.number r))
+  time_refused r e = record { answer = ap of_time e ∙ of_time_lem; exact = no_number bs (Refused (named.number r)) refl }

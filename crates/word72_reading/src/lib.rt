@@ -122,8 +122,8 @@ fn number(bytes: &[u8]) -> Reading
     ensures { InAnyYear form.Number bytes.now result }
 {
     match float1750::decode(bytes) {
-        float1750::Decoded::Number(x) => Reading::Number(x),
-        float1750::Decoded::Refused(number) => Reading::Refused(number),
+        Ok(x) => Reading::Number(x),
+        Err(refusal) => Reading::Refused(refusal.number()),
     }
 }
 
@@ -132,7 +132,7 @@ fn time(year: u64, bytes: &[u8]) -> Reading
     ensures { SuitedPromise year form.Time bytes.now result }
 {
     match time_code::decode(year, bytes) {
-        time_code::Decoded::Time(t) => Reading::Time(t),
-        time_code::Decoded::Refused(number) => Reading::Refused(number),
+        Ok(t) => Reading::Time(t),
+        Err(refusal) => Reading::Refused(refusal.number()),
     }
 }

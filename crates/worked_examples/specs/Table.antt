@@ -3,6 +3,7 @@
 use Rattle.std.specs.Prelude.{Bool, true, false, ◌&&◌, List, [], ◌∷◌, ◌++◌, map, ℕ, ◌+◌, ◌*◌, ◌^◌, eqb, negsuc, Float, replicate}
 use Rattle.std.specs.Float.{fin}
 use Rattle.base.specs.Lists.{concat_map, one}
+use Rattle.base.specs.Refusals.{number_of, values_of}
 use Rattle.float1750.specs.Codec as number
 use Rattle.float1750.specs.Double.{bits_of, sign_of, exponent, fraction}
 use Rattle.float1750.specs.Word.{sign, magnitude, biased}
@@ -67,11 +68,11 @@ value_numbers value.fill = []
 unfoldable pub answer_to : Question → List ℕ
 unfolding byte_vote number.decoded time.decoded
 answer_to (votes a b c) = word_answer (byte_vote a b c)
-answer_to (reads_number w) = number.number_of (number.decoded w) ∷ map bits_of (number.values_of (number.decoded w))
-answer_to (is_number w q) = one (word_is w q) ∷ map (λ v. one (double_is v q)) (number.values_of (number.decoded w))
+answer_to (reads_number w) = number_of (number.decoded w) ∷ map bits_of (values_of (number.decoded w))
+answer_to (is_number w q) = one (word_is w q) ∷ map (λ v. one (double_is v q)) (values_of (number.decoded w))
 answer_to (writes_number v) = number.encode_refusal v (replicate 6 0) ∷ number.encode_after v (replicate 6 0)
 answer_to (is_double v q) = one (double_is v q) ∷ []
-answer_to (reads_time y w) = time.number_of (time.decoded y w) ∷ time.values_of (time.decoded y w)
+answer_to (reads_time y w) = number_of (time.decoded y w) ∷ time.values_of (time.decoded y w)
 answer_to (has_fields w) = spacecraft w ∷ day w ∷ hour w ∷ minute w ∷ second w ∷ millisecond w ∷ sixteenth w ∷ []
 answer_to (reads_item y column k n) = item.number_of (reading y column k n) ∷ concat_map value_numbers (item.values_of (reading y column k n))
 

@@ -9,8 +9,8 @@ use Rattle.cycle.proofs.instant.Goals.{After-decode}
 answered : (d : After-decode) → instant_in d.decode.result ≡ instant_of d.args.year d.args.body.now
 answered d = instant-is _ _ _ _ d.time_bytes-code.ensures d.decode.ensures.answer
 
-pub returns-in-Time : goal.returns-in-Time
-returns-in-Time c = ap instant_in (sym c.in-Time.is) ∙ answered (goal.at.returns-in-Time c).After-decode
+pub returns-in-Ok : goal.returns-in-Ok
+returns-in-Ok c = ap instant_in (sym c.in-Ok.is) ∙ answered (goal.at.returns-in-Ok c).After-decode
 
-pub returns-in-Refused : goal.returns-in-Refused
-returns-in-Refused c = ap instant_in (sym c.in-Refused.is) ∙ answered (goal.at.returns-in-Refused c).After-decode
+pub returns-in-Err : goal.returns-in-Err
+returns-in-Err c = ap instant_in (sym c.in-Err.is) ∙ answered (goal.at.returns-in-Err c).After-decode

@@ -12,9 +12,6 @@ returns-then-bytes-ne-WORD_LENGTH c =
     let w = c.args.bytes.now in
     decode_promise w (λ i. (c.type_inv.bytes i).fits) _ (wrong-length w c.if-bytes-ne-WORD_LENGTH.true)
 
-pub decode_six-requires : goal.decode_six-requires
-decode_six-requires c = tt
-
 pub returns : goal.returns
 returns c =
     let w = c.args.bytes.now in

@@ -18,14 +18,8 @@ w a =
 m-is : (a : After-mantissa-m) → a.mantissa-m.result ≡ bits40 (w a)
 m-is a = omega arith
 
-pub mantissa-m-requires : goal.mantissa-m-requires
-mantissa-m-requires c = tt
-
 pub returns-then-m-b3 : goal.returns-then-m-b3
 returns-then-m-b3 c = zero-answer (w (goal.at.returns-then-m-b3 c).After-mantissa-m) refl c.mantissa-m.result (biased (w (goal.at.returns-then-m-b3 c).After-mantissa-m)) (m-is (goal.at.returns-then-m-b3 c).After-mantissa-m) refl c.if-m-b3.true
-
-pub biased_exponent-biased-requires : goal.biased_exponent-biased-requires
-biased_exponent-biased-requires c = tt
 
 pub returns-then-first_two-eq1 : goal.returns-then-first_two-eq1
 returns-then-first_two-eq1 c =

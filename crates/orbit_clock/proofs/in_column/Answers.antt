@@ -11,11 +11,11 @@ use Rattle.orbit_clock.proofs.in_column.Goals.{Start}
 six : (s : Start) → length (clock_update s.args.column.now) ≡ 6
 six s = simp (length-take, length-drop) (omega (arith, s.requires))
 
-pub returns-in-Number : goal.returns-in-Number
-returns-in-Number c =
-    clock_read c.args.column.now (six (goal.at.returns-in-Number c).Start) _ _ _ _ _ c.decode.ensures c.in-Number.is c.count16.ensures
-    c.count16-in-Number.ensures c.count16-in-Number-2.ensures
+pub returns-in-Ok : goal.returns-in-Ok
+returns-in-Ok c =
+    clock_read c.args.column.now (six (goal.at.returns-in-Ok c).Start) _ _ _ _ _ c.decode.ensures c.in-Ok.is c.count16.ensures
+    c.count16-in-Ok.ensures c.count16-in-Ok-2.ensures
 
-pub returns-in-Refused : goal.returns-in-Refused
-returns-in-Refused c =
-    clock_unread c.args.column.now (six (goal.at.returns-in-Refused c).Start) _ _ _ c.decode.ensures c.in-Refused.is c.none.ensures
+pub returns-in-Err : goal.returns-in-Err
+returns-in-Err c =
+    clock_unread c.args.column.now (six (goal.at.returns-in-Err c).Start) _ _ _ _ c.decode.ensures c.in-Err.is c.number.ensures c.none.ensures

@@ -19,9 +19,6 @@ returns-then-bytes-ne-CODE_LENGTH c =
     let w = a.bytes.now in
     decode_promise a.year w _ (omega (arith, c.type_inv.bytes 0)) (sym (wrong-length a.year w c.if-bytes-ne-CODE_LENGTH.true))
 
-pub in_span-requires : goal.in_span-requires
-in_span-requires c = tt
-
 pub returns-then-not-in_span : goal.returns-then-not-in_span
 returns-then-not-in_span c =
     let a = c.args in

@@ -5,15 +5,6 @@ use Prim.Native.Nat.{ℕ}
 use Rattle.time_code.proofs.Codes.{out_of_range, accepted}
 use Rattle.time_code.proofs.decode_seven.Goals as goal
 
-pub is_time-requires : goal.is_time-requires
-is_time-requires c = tt
-
-pub high-requires : goal.high-requires
-high-requires c = tt
-
-pub instant-requires : goal.instant-requires
-instant-requires c = tt
-
 pub returns-then-is_time : goal.returns-then-is_time
 returns-then-is_time c =
     let a = c.args in

@@ -13,33 +13,24 @@ use Rattle.time_code.proofs.encode.Goals.{Else-not-in_span}
 spanned : (c : Else-not-in_span) → in_span c.args.year ≡ true
 spanned c = sym c.in_span.ensures ∙ c.if-not-in_span.false
 
-pub returns-then-out-ne-CODE_LENGTH : goal.returns-then-out-ne-CODE_LENGTH
-returns-then-out-ne-CODE_LENGTH c =
+pub returns-then-out-ne-CODE_LENGTH-clause-promise : goal.returns-then-out-ne-CODE_LENGTH-clause-promise
+returns-then-out-ne-CODE_LENGTH-clause-promise c =
     let a = c.args in
     wrong-length a.year a.t a.out.now c.if-out-ne-CODE_LENGTH.true
 
-pub in_span-requires : goal.in_span-requires
-in_span-requires c = tt
-
-pub returns-then-not-in_span : goal.returns-then-not-in_span
-returns-then-not-in_span c =
+pub returns-then-not-in_span-clause-promise : goal.returns-then-not-in_span-clause-promise
+returns-then-not-in_span-clause-promise c =
     let a = c.args in
     out-of_span a.year a.t a.out.now c.if-out-ne-CODE_LENGTH.false (sym c.in_span.ensures ∙ c.if-not-in_span.true)
 
-pub has_code-requires : goal.has_code-requires
-has_code-requires c = tt
-
-pub put-requires : goal.put-requires
-put-requires c = tt
-
-pub returns-then-has_code : goal.returns-then-has_code
-returns-then-has_code c =
+pub returns-then-has_code-clause-promise : goal.returns-then-has_code-clause-promise
+returns-then-has_code-clause-promise c =
     let a = c.args in
     let coded : has_code a.year a.t ≡ true = sym c.has_code.ensures ∙ c.if-has_code.true in
     let fit = code_fits a.year a.t (subst T (sym coded) tt) a.out.now c.if-out-ne-CODE_LENGTH.false in
-    written a.year a.t a.out.now c.if-out-ne-CODE_LENGTH.false (spanned (goal.at.returns-then-has_code c).Else-not-in_span) c.put.new.out coded (c.put.ensures ∙ sym fit)
+    written a.year a.t a.out.now c.if-out-ne-CODE_LENGTH.false (spanned (goal.at.returns-then-has_code-clause-promise c).Else-not-in_span) c.put.new.out coded (c.put.ensures ∙ sym fit)
 
-pub returns : goal.returns
-returns c =
+pub returns-clause-promise : goal.returns-clause-promise
+returns-clause-promise c =
     let a = c.args in
-    no_such_code a.year a.t a.out.now c.if-out-ne-CODE_LENGTH.false (spanned (goal.at.returns c).Else-not-in_span) (sym c.has_code.ensures ∙ c.if-has_code.false)
+    no_such_code a.year a.t a.out.now c.if-out-ne-CODE_LENGTH.false (spanned (goal.at.returns-clause-promise c).Else-not-in_span) (sym c.has_code.ensures ∙ c.if-has_code.false)

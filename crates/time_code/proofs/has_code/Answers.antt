@@ -2,9 +2,6 @@
 use Rattle.time_code.specs.Codec.{has_code}
 use Rattle.time_code.proofs.has_code.Goals as goal
 
-pub last_day-last_day-requires : goal.last_day-last_day-requires
-last_day-last_day-requires c = tt
-
 pub returns : goal.returns
 unfolding has_code
 returns c = rw c.last_day-last_day.ensures

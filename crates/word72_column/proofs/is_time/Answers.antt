@@ -4,12 +4,12 @@ use mathlib.Core.Path.{ap, ◌∙◌}
 use Rattle.word72_column.proofs.Answers.{accepted, time_accepted}
 use Rattle.word72_column.proofs.is_time.Goals as goal
 
-pub returns-in-Time : goal.returns-in-Time
-returns-in-Time c =
-    ap accepted c.in-Time.ensures.answer
+pub returns-in-Ok : goal.returns-in-Ok
+returns-in-Ok c =
+    ap accepted c.in-Ok.ensures.answer
     ∙ time_accepted c.args.year c.args.bytes.now c.requires.0 c.requires.1
 
-pub returns-in-Refused : goal.returns-in-Refused
-returns-in-Refused c =
-    ap accepted c.in-Refused.ensures.answer
+pub returns-in-Err : goal.returns-in-Err
+returns-in-Err c =
+    ap accepted c.in-Err.ensures.answer
     ∙ time_accepted c.args.year c.args.bytes.now c.requires.0 c.requires.1

@@ -2,8 +2,8 @@
 use Rattle.word72_reading.proofs.Bytes.{number_read, number-refused}
 use Rattle.word72_reading.proofs.number.Goals as goal
 
-pub returns-in-Number : goal.returns-in-Number
-returns-in-Number c = number_read c.args.bytes.now c.requires _ c.in-Number.ensures
+pub returns-in-Ok : goal.returns-in-Ok
+returns-in-Ok c = number_read c.args.bytes.now c.requires _ c.in-Ok.ensures
 
-pub returns-in-Refused : goal.returns-in-Refused
-returns-in-Refused c = number-refused c.args.bytes.now c.requires _ c.in-Refused.ensures
+pub returns-in-Err : goal.returns-in-Err
+returns-in-Err c = rw c.number.ensures (number-refused c.args.bytes.now c.requires _ c.in-Err.ensures)

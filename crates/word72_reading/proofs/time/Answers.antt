@@ -2,10 +2,10 @@
 use Rattle.word72_reading.proofs.Bytes.{time_read, time_refused}
 use Rattle.word72_reading.proofs.time.Goals as goal
 
-pub returns-in-Time : goal.returns-in-Time
-returns-in-Time c =
-    time_read c.args.year c.args.bytes.now c.requires.0 c.requires.1 _ c.in-Time.ensures.answer
+pub returns-in-Ok : goal.returns-in-Ok
+returns-in-Ok c =
+    time_read c.args.year c.args.bytes.now c.requires.0 c.requires.1 _ c.in-Ok.ensures.answer
 
-pub returns-in-Refused : goal.returns-in-Refused
-returns-in-Refused c =
-    time_refused c.args.year c.args.bytes.now c.requires.0 c.requires.1 _ c.in-Refused.ensures.answer
+pub returns-in-Err : goal.returns-in-Err
+returns-in-Err c =
+    rw c.number.ensures (time_refused c.args.year c.args.bytes.now c.requires.0 c.requires.1 _ c.in-Err.ensures.answer)
