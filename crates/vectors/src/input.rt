@@ -12,14 +12,12 @@ pub fn filled(rt: &impl Input, bytes: &mut [u8]) -> bool {
 
 // Fills this list with numbers of eight bytes, first byte highest; false where the input ends before.
 pub fn filled_numbers(rt: &impl Input, list: &mut [u64]) -> bool {
-    let mut i: usize = 0;
-    while i < list.len() {
+    for n in list.iter_mut() {
         let mut bytes = [0u8; 8];
         if !filled(rt, &mut bytes) {
             return false;
         }
-        list[i] = number(&bytes);
-        i += 1;
+        *n = number(&bytes);
     }
     true
 }

@@ -17,34 +17,20 @@ pub fn field(rt: &impl Print, name: &[u8], n: u64) -> io::Result<()> {
 
 // Text in which each '#' stands for the next of the numbers.
 pub fn fields(rt: &impl Print, form: &[u8], numbers: &[u64]) -> io::Result<()> {
-    let mut written: usize = 0;
-    let mut i: usize = 0;
-    while i < form.len() {
-        written = put_next(rt, form[i], numbers, written)?;
-        i += 1;
+    let mut left = numbers.iter();
+    for &b in form {
+        if b != b'#' {
+            put(rt, &[b])?;
+        } else if let Some(&n) = left.next() {
+            put_number(rt, n)?;
+        }
     }
     Ok(())
 }
 
-// A byte of such a text, before which so many numbers were written; the answer is how many are then.
-fn put_next(rt: &impl Print, b: u8, numbers: &[u64], written: usize) -> io::Result<usize> {
-    if b != b'#' {
-        let text = [b];
-        put(rt, &text)?;
-        return Ok(written);
-    }
-    if written < numbers.len() {
-        put_number(rt, numbers[written])?;
-        return Ok(written + 1);
-    }
-    Ok(written)
-}
-
 pub fn put_bytes(rt: &impl Print, bytes: &[u8]) -> io::Result<()> {
-    let mut i: usize = 0;
-    while i < bytes.len() {
-        put_byte(rt, bytes[i])?;
-        i += 1;
+    for &b in bytes {
+        put_byte(rt, b)?;
     }
     Ok(())
 }
@@ -71,8 +57,8 @@ pub fn put_double(rt: &impl Print, x: f64) -> io::Result<()> {
 
 // The bits of a double; all ones for a NaN, which no reading gives.
 fn bits(x: f64) -> u64 {
-    if x != x {
-        return 0xFFFF_FFFF_FFFF_FFFF;
+    if x.is_nan() {
+        return u64::MAX;
     }
     f64::to_bits(x)
 }

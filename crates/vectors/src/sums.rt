@@ -5,8 +5,6 @@ ghost use Rattle.base.specs.Lists.{count_by, one};
 ghost use Rattle.base.specs.Numbers.{NumberOf};
 ghost use Rattle.vectors.specs.Folds.{mixed, is_other, is_other_first, differ, capped};
 
-use base::wide;
-
 const MODULUS: u64 = 4_294_967_291;
 
 // The number that the bytes are, the first one highest. Of more than eight the last eight count.
@@ -19,13 +17,7 @@ pub fn number(bytes: &[u8]) -> u64
 pub fn checksum(bytes: &[u8]) -> u64
     ensures { result ≡ foldl mixed 0 bytes.now }
 {
-    let mut h: u64 = 0;
-    let mut i: usize = 0;
-    while i < bytes.len() {
-        h = mix(h, wide(bytes[i]));
-        i += 1;
-    }
-    h
+    bytes.iter().fold(0, |h, &b| mix(h, u64::from(b)))
 }
 
 // One number more in a checksum.
@@ -39,43 +31,29 @@ pub fn mix(h: u64, n: u64) -> u64
 pub fn others(bytes: &[u8], b: u8) -> u64
     ensures { result ≡ count_by (is_other b) bytes.now }
 {
-    let mut n: u64 = 0;
-    let mut i: usize = 0;
-    while i < bytes.len() {
-        n += bit(bytes[i] != b);
-        i += 1;
-    }
-    n
+    bytes.iter().filter(|&&x| x != b).count() as u64
 }
 
 pub fn bit(b: bool) -> u64
     ensures { result ≡ one b }
 {
-    if b {
-        return 1;
-    }
-    0
+    u64::from(b)
 }
 
 // A sum that stops at the largest number.
 pub fn sum(a: u64, b: u64) -> u64
     ensures { result ≡ capped a b }
 {
-    if b <= 0xFFFF_FFFF_FFFF_FFFF - a {
-        return a + b;
-    }
-    0xFFFF_FFFF_FFFF_FFFF
+    a.saturating_add(b)
 }
 
 // At how many places of the first slice the second has another byte, or none.
 pub fn differing(a: &[u8], b: &[u8]) -> u64
     ensures { result ≡ differ a.now b.now }
 {
-    let mut n: u64 = 0;
-    let mut i: usize = 0;
-    while i < a.len() {
-        n += bit(is_other(a[i], b, i));
-        i += 1;
+    let mut n = 0;
+    for (i, &x) in a.iter().enumerate() {
+        n += bit(is_other(x, b, i));
     }
     n
 }
@@ -84,8 +62,8 @@ pub fn differing(a: &[u8], b: &[u8]) -> u64
 fn is_other(b: u8, bytes: &[u8], i: usize) -> bool
     ensures { result ≡ is_other_first b (drop i bytes.now) }
 {
-    if i < bytes.len() {
-        return bytes[i] != b;
+    match bytes.get(i) {
+        Some(&x) => x != b,
+        None => true,
     }
-    true
 }
