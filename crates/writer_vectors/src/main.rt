@@ -26,12 +26,10 @@ struct Header {
 }
 
 fn main(rt: HostRuntime) -> io::Result<()> {
-    let mut left = vectors::MOST_RECORDS;
-    while left > 0 {
+    for _ in 0..vectors::MOST_RECORDS {
         if !turn(&rt)? {
             return Ok(());
         }
-        left -= 1;
     }
     Ok(())
 }

@@ -51,9 +51,7 @@ fn with_frames(rt: &(impl Input + Print), lead_spacing: u64, spacings: &[u8]) ->
     Ok(true)
 }
 
-fn run(rt: &impl Print, lead_spacing: u64, spacings: &[u8], frames: &[u8]) -> io::Result<()>
-    requires { (length frames.now ≡ 128 * length spacings.now) × (length spacings.now ≤ 512) }
-{
+fn run(rt: &impl Print, lead_spacing: u64, spacings: &[u8], frames: &[u8]) -> io::Result<()> {
     let mut space = blank();
     let length = write_reel(lead_spacing, spacings, frames, &mut space);
     let reel = &space[0..length];
@@ -70,7 +68,6 @@ fn blank() -> [u8; 2000000]
 
 // Writes the reel at the start of the room; the answer is its length.
 fn write_reel(lead_spacing: u64, spacings: &[u8], frames: &[u8], room: &mut [u8]) -> usize
-    requires { (length frames.now ≡ 128 * length spacings.now) × (length spacings.now ≤ 512) }
     ensures { result ≤ length room.new }
 {
     let begun = write_lead_in(lead_spacing, &mut *room);
@@ -88,7 +85,7 @@ fn write_lead_in(spacing: u64, room: &mut [u8]) -> usize
     if room.len() < end {
         return 0;
     }
-    if writer::write_lead_in(spacing, &mut room[0..end]) != 0 {
+    if writer::write_lead_in(spacing, &mut room[..end]).is_err() {
         return 0;
     }
     end
@@ -96,16 +93,12 @@ fn write_lead_in(spacing: u64, room: &mut [u8]) -> usize
 
 // Writes each minor frame after the one before it; the answer is where the last one ends.
 fn write_frames(spacings: &[u8], frames: &[u8], begun: usize, room: &mut [u8]) -> usize
-    requires { (begun ≤ length room.old) × (length frames.now ≡ 128 * length spacings.now) × (length spacings.now ≤ 512) }
+    requires { begun ≤ length room.old }
     ensures { result ≤ length room.new }
 {
     let mut at = begun;
-    let mut i: usize = 0;
-    while i < spacings.len() {
-        let start = 128 * i;
-        let end = start + 128;
-        at += write_frame(spacings[i], &frames[start..end], &mut room[at..]);
-        i += 1;
+    for (&spacing, frame) in spacings.iter().zip(frames.chunks_exact(MINOR_FRAME)) {
+        at += write_frame(spacing, frame, &mut room[at..]);
     }
     at
 }
@@ -118,7 +111,7 @@ fn write_frame(spacing: u8, frame: &[u8], room: &mut [u8]) -> usize
     if room.len() < end {
         return 0;
     }
-    if writer::write_minor_frame(spacing as u64, frame, &mut room[0..end]) != 0 {
+    if writer::write_minor_frame(spacing as u64, frame, &mut room[..end]).is_err() {
         return 0;
     }
     end
@@ -126,15 +119,10 @@ fn write_frame(spacing: u8, frame: &[u8], room: &mut [u8]) -> usize
 
 // Reads the reel in pieces of each of these lengths, and whole.
 fn every_cut(rt: &impl Print, reel: &[u8], frames: &[u8]) -> io::Result<()> {
-    one_cut(rt, reel, frames, 1)?;
-    one_cut(rt, reel, frames, 3)?;
-    one_cut(rt, reel, frames, 7)?;
-    one_cut(rt, reel, frames, 61)?;
-    one_cut(rt, reel, frames, 127)?;
-    one_cut(rt, reel, frames, 509)?;
-    one_cut(rt, reel, frames, 4093)?;
-    one_cut(rt, reel, frames, 65521)?;
-    one_cut(rt, reel, frames, reel.len())
+    for piece in [1, 3, 7, 61, 127, 509, 4093, 65521, reel.len()] {
+        one_cut(rt, reel, frames, piece)?;
+    }
+    Ok(())
 }
 
 fn one_cut(rt: &impl Print, reel: &[u8], frames: &[u8], piece: usize) -> io::Result<()> {

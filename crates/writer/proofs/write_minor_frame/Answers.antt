@@ -23,15 +23,15 @@ pub put_stream-requires : goal.put_stream-requires
 put_stream-requires c =
     (omega arith, omega (arith, c.if-spacing-gt-MOST_SPACING.false), omega (arith, c.if-frame-ne-MINOR_FRAME.false), rw c.if-frame-ne-MINOR_FRAME.false c.if-out-step.false)
 
-pub returns-then-is_writable : goal.returns-then-is_writable
-returns-then-is_writable c =
+pub returns-then-not-is_writable : goal.returns-then-not-is_writable
+returns-then-not-is_writable c =
     let a = c.args in
-    let writable = sym c.is_writable.ensures ∙ c.if-is_writable.true in
-    frame-written a.spacing a.frame.now a.out.now (omega (arith, c.if-spacing-gt-MOST_SPACING.false)) c.if-frame-ne-MINOR_FRAME.false c.if-out-step.false writable
-    c.put_stream.ensures
+    let unwritable = sym c.is_writable.ensures ∙ c.if-not-is_writable.true in
+    frame-not_writable a.spacing a.frame.now a.out.now (omega (arith, c.if-spacing-gt-MOST_SPACING.false)) c.if-frame-ne-MINOR_FRAME.false c.if-out-step.false unwritable
 
 pub returns : goal.returns
 returns c =
     let a = c.args in
-    let unwritable = sym c.is_writable.ensures ∙ c.if-is_writable.false in
-    frame-not_writable a.spacing a.frame.now a.out.now (omega (arith, c.if-spacing-gt-MOST_SPACING.false)) c.if-frame-ne-MINOR_FRAME.false c.if-out-step.false unwritable
+    let writable = sym c.is_writable.ensures ∙ c.if-not-is_writable.false in
+    frame-written a.spacing a.frame.now a.out.now (omega (arith, c.if-spacing-gt-MOST_SPACING.false)) c.if-frame-ne-MINOR_FRAME.false c.if-out-step.false
+    c.put_stream.new.out writable c.put_stream.ensures
