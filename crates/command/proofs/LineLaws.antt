@@ -1,81 +1,58 @@
--- How the end of a line is found, and line after line. Assumes nothing.
-use mathlib.Core.Path.{◌≡◌, refl, sym, ap, ◌∙◌}
-use mathlib.Core.List.{List, [], ◌∷◌, ◌++◌, append-nil, append_assoc}
-use Prim.Native.Nat.{ℕ, suc, ◌+◌, ◌-◌, ◌≤◌, ◌<◌}
-use native.Mathlib.Numerals.{add-one}
-use native.Mathlib.Omega.{arith}
-use lib.ListN.{length, take, drop, get_or, length-drop, drop_of_length-le}
-use lib.Seq.{take-suc, drop-cons, get_or-drop}
-use borrow.Author.Tests.{eq-eqb, ne_eqb}
-use Rattle.command.specs.Lines.{first_line, after_line, line_in, LineEnd}
+-- The lines of a text are its parts between line feeds. Assumes nothing.
+use Rattle.std.proofs.Common.{◌≡◌, refl, ap, ◌∙◌, Bool, true, false, cond, List, [], ◌∷◌, ℕ, zero, suc, get_or, Option, Some, None}
+use Rattle.std.specs.List.{slice_split, slice_get, onto_first}
+use Rattle.std.specs.Option.{unwrap_or, option_map}
+use Rattle.std.proofs.lemmas.Option.{unwrap_or-slice_get}
+use lib.Dec.{eqb}
+use Rattle.command.specs.Lines.{first_line, after_line, line_in}
 
--- no line feed stands from `from` up to `end`
-pub record Scanned (text : List ℕ) (from end : ℕ) : Type 0 where
-  pub beyond : from ≤ end
-  pub within : end ≤ length text
-  pub line_goes_on : take (end - from) (drop from text) ++ first_line (drop end text) ≡ first_line (drop from text)
-  pub rest_same : after_line (drop end text) ≡ after_line (drop from text)
+abbrev pub is_feed : ℕ → Bool
+is_feed b = eqb b 0x0a
 
-module _ (text : List ℕ) (from : ℕ) where
-  pub scan_begins : from ≤ length text → Scanned text from from
-  scan_begins h =
-      let none : from - from ≡ 0 = omega arith in
-      record { beyond = omega arith; within = h; line_goes_on = rw none; rest_same = refl }
+abbrev parts : List ℕ → List (List ℕ)
+parts text = slice_split is_feed text
 
-  module _ (end : ℕ) (s : Scanned text from end) where
-    abbrev b : ℕ
-    b = get_or text end 0
+-- a byte at the front of the first part is in no other
+first_with : (b : ℕ) (ps : List (List ℕ)) → get_or (onto_first b ps) 0 [] ≡ b ∷ get_or ps 0 []
+first_with b [] = refl
+first_with b (p ∷ ps) = refl
 
-    pub scan_goes_on : end < length text → (b ≡ 0x0a → ⊥) → Scanned text from (end + 1)
-    unfolding first_line after_line
-    scan_goes_on h other =
-        let here = drop-cons text end 0 h in
-        let past : end + 1 - from ≡ suc (end - from) = omega (arith, s.beyond) in
-        let place : from + (end - from) ≡ end = omega (arith, s.beyond) in
-        let inside : end - from < length (drop from text) = omega (arith, s.beyond, length-drop from text) in
-        let byte : get_or (drop from text) (end - from) 0 ≡ b = get_or-drop from text (end - from) 0 ∙ ap (λ (k : ℕ). get_or text k 0) place in
-        let front : take (suc (end - from)) (drop from text) ≡ take (end - from) (drop from text) ++ (b ∷ [])
-        = take-suc (drop from text) (end - from) 0 inside ∙ rw byte in
-        let line = rw (here, ne_eqb b 0x0a other) at s.line_goes_on in
-        let rest = rw (here, ne_eqb b 0x0a other) at s.rest_same in
-        record {
-          beyond = omega (arith, s.beyond);
-          within = omega arith;
-          line_goes_on = rw (past, front, append_assoc, add-one) line;
-          rest_same = rw add-one rest;
-        }
+later-with : (b : ℕ) (ps : List (List ℕ)) (n : ℕ) → get_or (onto_first b ps) (suc n) [] ≡ get_or ps (suc n) []
+later-with b [] n = refl
+later-with b (p ∷ ps) n = refl
 
-    pub scan_stops : end < length text → b ≡ 0x0a → LineEnd text from end
-    unfolding first_line after_line
-    scan_stops h feed =
-        let here = drop-cons text end 0 h in
-        let test = eq-eqb b 0x0a feed in
-        let line = rw (here, test, append-nil) at s.line_goes_on in
-        let rest = rw (here, test) at s.rest_same in
-        record { beyond = s.beyond; within = s.within; line_is = line; rest-is = rw add-one rest }
+first_part : (text : List ℕ) → get_or (parts text) 0 [] ≡ first_line text
+unfolding first_line
+first_part [] = refl
+first_part (b ∷ bs) = go (is_feed b) (first_part bs)
+  where
+    go : (f : Bool) → get_or (parts bs) 0 [] ≡ first_line bs → get_or (cond f ([] ∷ parts bs) (onto_first b (parts bs))) 0 [] ≡ cond f [] (b ∷ first_line bs)
+    go true e = refl
+    go false e = first_with b (parts bs) ∙ ap (λ (l : List ℕ). b ∷ l) e
 
-    pub scan_ends : length text ≤ end → LineEnd text from end
-    unfolding first_line after_line
-    scan_ends h =
-        let none = drop_of_length-le text {i = end} h in
-        let beyond = drop_of_length-le text {i = end + 1} (omega arith) in
-        let line = rw (none, append-nil) at s.line_goes_on in
-        let rest = rw none at s.rest_same in
-        record { beyond = s.beyond; within = s.within; line_is = line; rest-is = rw beyond rest }
+none-later : (n : ℕ) → get_or (parts []) (suc n) [] ≡ get_or (parts []) n []
+none-later zero = refl
+none-later (suc n) = refl
 
--- the next line starts behind the line feed, or there is none
-pub next-starts : (text : List ℕ) (from end : ℕ) → LineEnd text from end → length text ≤ end → drop end text ≡ after_line (drop from text)
-next-starts text from end l h =
-    drop_of_length-le text {i = end} h ∙ sym (drop_of_length-le text {i = end + 1} (omega arith)) ∙ l.rest-is
+later-part : (text : List ℕ) (n : ℕ) → get_or (parts text) (suc n) [] ≡ get_or (parts (after_line text)) n []
+unfolding after_line
+later-part [] n = none-later n
+later-part (b ∷ bs) n = go (is_feed b) (later-part bs n)
+  where
+    go : (f : Bool) → get_or (parts bs) (suc n) [] ≡ get_or (parts (after_line bs)) n []
+        → get_or (cond f ([] ∷ parts bs) (onto_first b (parts bs))) (suc n) [] ≡ get_or (parts (cond f bs (after_line bs))) n []
+    go true e = refl
+    go false e = later-with b (parts bs) n ∙ e
 
--- line n is line n - k from a place on
-pub line_later : (text rest : List ℕ) (start n k : ℕ) → k < n → line_in (drop start text) (n - k) ≡ line_in text n → rest ≡ after_line (drop start text)
-    → line_in rest (n - (k + 1)) ≡ line_in text n
+part_is : (text : List ℕ) (n : ℕ) → get_or (parts text) n [] ≡ line_in text n
 unfolding line_in
-line_later text rest start n k h same e =
-    let one : n - k ≡ suc (n - (k + 1)) = omega arith in
-    rw e (rw one at same)
+part_is text zero = first_part text
+part_is text (suc n) = later-part text n ∙ part_is (after_line text) n
 
-pub line_here : (text : List ℕ) (start n k : ℕ) → n ≤ k → line_in (drop start text) (n - k) ≡ line_in text n → first_line (drop start text) ≡ line_in text n
-unfolding line_in
-line_here text start n k h same = let none : n - k ≡ 0 = omega arith in rw none at same
+pub line_is : (text : List ℕ) (n : ℕ) → unwrap_or (slice_get (slice_split is_feed text) n) [] ≡ line_in text n
+line_is text n = unwrap_or-slice_get (parts text) n [] ∙ part_is text n
+
+-- a function of what is there, or of what stands in for it
+pub unwrap_or-map : {A B : Type 0} (f : A → B) (o : Option A) (d : A) → f (unwrap_or o d) ≡ unwrap_or (option_map f o) (f d)
+unwrap_or-map f None d = refl
+unwrap_or-map f (Some a) d = refl

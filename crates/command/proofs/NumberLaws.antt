@@ -1,5 +1,5 @@
 -- How a number grows digit by digit. Assumes nothing.
-use Rattle.std.proofs.Common.{◌≡◌, refl, sym, ◌∙◌, Bool, true, false, cond, ◌&&◌, List, ℕ, suc, ◌+◌, ◌-◌, ◌*◌, ◌^◌, ◌≤◌, ◌<◌}
+use Rattle.std.proofs.Common.{◌≡◌, refl, sym, Bool, true, false, cond, ◌&&◌, List, ℕ, suc, ◌+◌, ◌-◌, ◌*◌, ◌^◌, ◌≤◌, ◌<◌}
 use Rattle.std.proofs.Common.{Some, None, length, get_or, drop, drop-cons, add-one, arith}
 use mathlib.Core.Bool.{and-false}
 use native.Mathlib.Nat.{pow-le-pow_right, pow-suc}

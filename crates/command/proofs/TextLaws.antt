@@ -2,13 +2,16 @@
 use mathlib.Core.Path.{◌≡◌, refl, sym, ap, ◌∙◌}
 use mathlib.Core.Bool.{Bool, true, false}
 use mathlib.Core.List.{List, [], ◌∷◌, ◌++◌, append-nil, append_assoc}
-use Prim.Native.Nat.{ℕ, zero, suc, ◌+◌, ◌-◌, ◌^◌, ◌≤◌, ◌<◌}
+use Prim.Native.Nat.{ℕ, min, zero, suc, ◌+◌, ◌-◌, ◌^◌, ◌≤◌, ◌<◌}
 use native.Mathlib.Nat.{pow-le-pow_right}
 use native.Mathlib.Numerals.{add-one}
 use native.Mathlib.Omega.{arith}
 use lib.Dec.{leb, ltb}
-use lib.ListN.{length, take, set, get_or, length-append, length-set}
-use lib.Seq.{take_all, take_at, take-length, take-suc, take-suc-set, length-take-le}
+use lib.ListN.{length, take, set, length-append, length-set, length-take}
+use lib.Seq.{take_all, take_at, take-length, take-suc-set, take-append-add, length-take-le}
+use Rattle.std.proofs.lemmas.List.{take_min}
+use Rattle.std.proofs.lemmas.Slice.{take-put_mid}
+use borrow.Rule.Slice.PartMut.{mid_of, put_mid, same_len_mid}
 use borrow.Author.Tests.{leb-true, leb-false, lt-ltb, le-ltb}
 use Rattle.base.specs.Ranges.{lowest}
 use Rattle.base.proofs.Ranges.{stopped}
@@ -58,10 +61,23 @@ adds_append {old} {xs} {ys} {a} p q = record {
   counts = q.counts;
 }
 
--- so much of a slice is put, and then one byte more
-pub adds_one_more : {old mid new : List ℕ} {a b c : ℕ} (s : List ℕ) (i : ℕ) → i < length s → Adds old a (take i s) mid b
-    → Adds mid b (get_or s i 0 ∷ []) new c → Adds old a (take (i + 1) s) new c
-adds_one_more s i h p q = rw (add-one, take-suc s i 0 h) (adds_append p q)
+-- as much of the bytes as there is room for is copied behind the text
+pub adds_part : (old bytes part : List ℕ) (at from n k : ℕ) → from ≡ min at (length old) → n ≡ min (length old - from) (length bytes)
+    → part ≡ take n bytes → length part ≡ length (mid_of from k old) → Adds old at bytes (put_mid from k old part) (from + n)
+adds_part old bytes part at from n k f m p e =
+    let size : length part ≡ n = rw p (length-take-le n bytes (omega arith)) in
+    let front : take from old ≡ take at old = rw (f, take_min at old) in
+    let as_long : length (take at old) ≡ from = length-take at old ∙ sym f in
+    let some : take n bytes ≡ take (length old - from) bytes = rw (m, take_min (length old - from) bytes) in
+    let whole : length old ≡ length (take at old) + (length old - from) = omega arith in
+    let fits : take (length old) (take at old ++ bytes) ≡ take at old ++ take (length old - from) bytes
+    = ap (λ (j : ℕ). take j (take at old ++ bytes)) whole ∙ take-append-add (take at old) bytes (length old - from) in
+    let same = same_len_mid from k old part e in
+    record {
+      text_is = take-put_mid from k old part (from + n) (omega arith) (omega arith) ∙ rw (front, p, some) (sym fits);
+      size_is = same;
+      counts = counted (put_mid from k old part) (from + n) (omega arith);
+    }
 
 -- a number of 64 bits has 20 digits at most
 twenty : (n k : ℕ) → n < 2 ^ 64 → IsDigitCount 10 1 n k → k ≤ 20

@@ -1,5 +1,5 @@
 -- The lines of a text. Definitions only.
-use Rattle.std.specs.Prelude.{◌≡◌, cond, List, [], ◌∷◌, ℕ, zero, suc, ◌+◌, ◌-◌, ◌≤◌, eqb, length, take, drop}
+use Rattle.std.specs.Prelude.{cond, List, [], ◌∷◌, ℕ, zero, suc, eqb}
 
 -- the bytes before the first line feed
 unfoldable pub first_line : List ℕ → List ℕ
@@ -15,10 +15,3 @@ after_line (b ∷ bs) = cond (eqb b 0x0a) bs (after_line bs)
 unfoldable pub line_in : List ℕ → ℕ → List ℕ
 line_in text zero = first_line text
 line_in text (suc n) = line_in (after_line text) n
-
--- the line that starts at `from` ends before place r
-pub record LineEnd (text : List ℕ) (from r : ℕ) : Type 0 where
-  pub beyond : from ≤ r
-  pub within : r ≤ length text
-  pub line_is : take (r - from) (drop from text) ≡ first_line (drop from text)
-  pub rest-is : drop (r + 1) text ≡ after_line (drop from text)

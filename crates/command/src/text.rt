@@ -5,13 +5,10 @@ ghost use Rattle.command.specs.Text.{Adds, decimal};
 pub fn put(out: &mut [u8], at: usize, text: &[u8]) -> usize
     ensures { Adds out.old at text.now out.new result }
 {
-    let mut end = begin(out, at);
-    let mut i: usize = 0;
-    while i < text.len() {
-        end = put_byte(&mut *out, end, text[i]);
-        i += 1;
-    }
-    end
+    let from = at.min(out.len());
+    let n = (out.len() - from).min(text.len());
+    out[from..from + n].copy_from_slice(&text[..n]);
+    from + n
 }
 
 // A number in decimal digits.
@@ -45,16 +42,6 @@ pub fn put_byte(out: &mut [u8], at: usize, b: u8) -> usize
     if at < out.len() {
         out[at] = b;
         return at + 1;
-    }
-    out.len()
-}
-
-// Where a text ends to which nothing is added.
-fn begin(out: &[u8], at: usize) -> usize
-    ensures { Adds out.now at [] out.now result }
-{
-    if at < out.len() {
-        return at;
     }
     out.len()
 }
