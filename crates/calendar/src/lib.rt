@@ -12,17 +12,14 @@ const LAST_YEAR: u64 = 2099;
 pub fn in_span(year: u64) -> bool
     ensures { result ≡ in_span year }
 {
-    (FIRST_YEAR <= year) & (year <= LAST_YEAR)
+    (FIRST_YEAR..=LAST_YEAR).contains(&year)
 }
 
 // The number of a year's last day.
 pub fn last_day(year: u64) -> u64
     ensures { result ≡ last_day year }
 {
-    if is_leap(year) {
-        return 366;
-    }
-    365
+    if is_leap(year) { 366 } else { 365 }
 }
 
 // No century exception falls in the span.

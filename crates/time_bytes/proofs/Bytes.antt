@@ -1,12 +1,11 @@
 -- Packing undoes reading the half bytes, and reading them undoes packing; and the bytes of an instant are its fields packed.
 -- Each step is linear arithmetic on one field, so that no proof sees more than it needs. Assumes nothing.
-use mathlib.Core.Path.{◌≡◌, sym, subst}
-use mathlib.Core.Bool.{true, false}
+use mathlib.Core.Path.{◌≡◌}
 use mathlib.Core.List.{List, [], ◌∷◌}
 use Prim.Native.Nat.{ℕ, ◌+◌, ◌*◌, ◌/◌, ◌%◌, ◌≤◌, ◌<◌}
 use native.Mathlib.Omega.{arith}
-use lib.Dec.{T, leb→le, eqb→eq}
-use lib.Ieee.Fits.{and_i, and_l, and_r}
+use lib.Dec.{T}
+use lib.Ieee.Fits.{and_i}
 use lib.ListN.{length}
 use borrow.Author.Tests.{le-leb}
 use Rattle.calendar.specs.Calendar.{last_day}
@@ -15,7 +14,7 @@ use Rattle.time_fields.specs.Fields.{spacecraft, day, hour, minute, second, mill
 use Rattle.time_fields.specs.Fields.{day_of, hour_of, minute_of, second_of, millisecond_of, sixteenth_of}
 use Rattle.time_fields.proofs.Fields.{Digits, of_digits, InRange, of_range}
 use Rattle.time_fields.proofs.Fields.{day-of, hour-of, minute-of, second-of, millisecond-of, sixteenth-of}
-use Rattle.time_bytes.specs.Bytes.{halves, bcd, packed, code_of, fits, put_after}
+use Rattle.time_bytes.specs.Bytes.{halves, bcd, packed, code_of, put_after}
 
 -- ---- seven bytes, their fields packed again
 module _ (b0 b1 b2 b3 b4 b5 b6 : ℕ) where
@@ -82,22 +81,7 @@ pub code_bytes : (c i b1 b2 b3 b4 b5 : ℕ) → b1 ≡ bcd (day_of i % 100) → 
 unfolding code_of
 code_bytes c i b1 b2 b3 b4 b5 e1 e2 e3 e4 e5 = rw (e1, e2, e3, e4, e5)
 
--- ---- whether they fit
-pub record Fits (room c i : ℕ) : Type 0 where
-  pub seven : room ≡ 7
-  pub craft : c ≤ 15
-  pub day : day_of i ≤ 366
-
-pub to-fits : (room c i : ℕ) → fits room c i ≡ true → Fits room c i
-to-fits room c i e =
-    let t : T (fits room c i) = subst T (sym e) tt in
-    search (and_l, and_r, leb→le, eqb→eq) depth 8
-
-module _ (c i : ℕ) (out : List ℕ) where
-  pub put-none : fits (length out) c i ≡ false → out ≡ put_after c i out
-  unfolding put_after
-  put-none e = rw e
-
-  pub put-code : Fits (length out) c i → code_of c i ≡ put_after c i out
-  unfolding put_after
-  put-code f = rw (f.seven, le-leb c 15 f.craft, le-leb (day_of i) 366 f.day)
+-- ---- they are written where they fit
+pub put-code : (c i : ℕ) (out : List ℕ) → length out ≡ 7 → c ≤ 15 → day_of i ≤ 366 → code_of c i ≡ put_after c i out
+unfolding put_after
+put-code c i out seven craft day = rw (seven, le-leb c 15 craft, le-leb (day_of i) 366 day)

@@ -1,8 +1,8 @@
 -- `calendar::in_span` meets its contract: the code joins the definition's tests. Assumes nothing.
-use mathlib.Core.Path.{refl}
+use borrow.Author.Rules.{rules}
 use Rattle.calendar.specs.Calendar.{in_span}
 use Rattle.calendar.proofs.in_span.Goals as goal
 
 pub returns : goal.returns
 unfolding in_span
-returns c = refl
+returns c = search rules

@@ -1,18 +1,10 @@
 -- `time_fields::instant` meets its contract: sums of half bytes, each by its weight. Assumes nothing.
-use mathlib.Core.List.{List, [], ◌∷◌}
-use Prim.Native.Nat.{ℕ}
 use native.Mathlib.Omega.{arith}
 use Rattle.time_fields.proofs.Fields.{instant-read}
 use Rattle.time_fields.proofs.instant.Goals as goal
 
-pub day-requires : goal.day-requires
-day-requires c = tt
-
 pub overflow_mul-minutes : goal.overflow_mul-minutes
 overflow_mul-minutes c = omega arith
-
-pub two_digits-requires : goal.two_digits-requires
-two_digits-requires c = tt
 
 pub overflow_add-minutes : goal.overflow_add-minutes
 overflow_add-minutes c = omega arith
@@ -20,17 +12,11 @@ overflow_add-minutes c = omega arith
 pub overflow_mul-minutes-2 : goal.overflow_mul-minutes-2
 overflow_mul-minutes-2 c = omega arith
 
-pub two_digits-requires-2 : goal.two_digits-requires-2
-two_digits-requires-2 c = tt
-
 pub overflow_add-minutes-2 : goal.overflow_add-minutes-2
 overflow_add-minutes-2 c = omega arith
 
 pub overflow_mul-milliseconds : goal.overflow_mul-milliseconds
 overflow_mul-milliseconds c = omega arith
-
-pub two_digits-requires-3 : goal.two_digits-requires-3
-two_digits-requires-3 c = tt
 
 pub overflow_add-milliseconds : goal.overflow_add-milliseconds
 overflow_add-milliseconds c = omega arith
@@ -38,17 +24,11 @@ overflow_add-milliseconds c = omega arith
 pub overflow_mul-milliseconds-2 : goal.overflow_mul-milliseconds-2
 overflow_mul-milliseconds-2 c = omega arith
 
-pub two_digits-requires-4 : goal.two_digits-requires-4
-two_digits-requires-4 c = tt
-
 pub overflow_mul-milliseconds-3 : goal.overflow_mul-milliseconds-3
 overflow_mul-milliseconds-3 c = omega arith
 
 pub overflow_add-milliseconds-2 : goal.overflow_add-milliseconds-2
 overflow_add-milliseconds-2 c = omega arith
-
-pub high-requires : goal.high-requires
-high-requires c = tt
 
 pub overflow_add-milliseconds-3 : goal.overflow_add-milliseconds-3
 overflow_add-milliseconds-3 c = omega arith
@@ -56,16 +36,13 @@ overflow_add-milliseconds-3 c = omega arith
 pub overflow_mul-result : goal.overflow_mul-result
 overflow_mul-result c = omega arith
 
-pub low-requires : goal.low-requires
-low-requires c = tt
-
 pub overflow_add-result : goal.overflow_add-result
 overflow_add-result c = omega arith
 
 pub returns : goal.returns
 returns c =
     let a = c.args in
-    let w : List ℕ = a.b0 ∷ a.b1 ∷ a.b2 ∷ a.b3 ∷ a.b4 ∷ a.b5 ∷ a.b6 ∷ [] in
+    let w = a.code.now in
     omega (
       arith,
       instant-read w c.day.result c.two_digits.result c.two_digits-2.result c.two_digits-3.result
