@@ -1,4 +1,3 @@
 pub mod BookCrossed
 pub mod ComparedCrossed
-pub mod FoundCrossed
 pub mod RecordsCrossed

@@ -8,16 +8,14 @@ pub fn pcd_find(instants: &[u64], wanted: u64, out: &mut [u64; 2]) -> u8
     ensures { FindCrossed instants.now wanted result out.old out.new }
 {
     match lookup::find(instants, wanted) {
-        Found::At { place, looks } => {
+        Ok(Found { place: Some(place), looks }) => {
             *out = [place as u64 + 1, looks as u64];
-            return 0;
+            0
         }
-        Found::Nothing { looks } => {
+        Ok(Found { place: None, looks }) => {
             *out = [0, looks as u64];
-            return 0;
+            0
         }
-        Found::Refused(number) => {
-            return number;
-        }
+        Err(refusal) => refusal.number(),
     }
 }

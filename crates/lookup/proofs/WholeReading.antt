@@ -2,7 +2,7 @@
 -- instant and all from high on are above it, so that where they meet low - 1 is the last place at most the wanted one. Assumes nothing.
 use mathlib.Core.Path.{◌≡◌, refl, sym, ap, ◌∙◌}
 use mathlib.Core.List.{List, [], ◌∷◌}
-use mathlib.Core.Option.{Option, none, some}
+use Rattle.std.proofs.Common.{Option, Some, None}
 use Prim.Native.Nat.{ℕ, zero, suc, ◌+◌, ◌-◌, ◌≤◌, ◌<◌}
 use native.Mathlib.Omega.{arith}
 use lib.Dec.{eqb-suc-zero}
@@ -24,15 +24,15 @@ module _ (wanted : ℕ) where
 
   -- a rest of which the first e + 1 are at most the wanted instant, and no others, ends with the last of these
   at_most : (e : ℕ) (xs : List ℕ) (i : ℕ) (last : Option ℕ) → e < length xs → ((j : ℕ) → j ≤ e → get_or xs j 0 ≤ wanted)
-      → ((j : ℕ) → e < j → j < length xs → wanted < get_or xs j 0) → read_on wanted i last xs ≡ some (i + e)
+      → ((j : ℕ) → e < j → j < length xs → wanted < get_or xs j 0) → read_on wanted i last xs ≡ Some (i + e)
   at_most e [] i last l h k = absurd (omega arith)
   at_most zero (x ∷ xs) i last l h k =
       let z : i ≡ i + 0 = omega arith in
-      rw (le-leb x wanted (h 0 (omega arith))) (above xs (i + 1) (some i) (λ j b. k (suc j) (omega arith) (omega arith)) ∙ ap some z)
+      rw (le-leb x wanted (h 0 (omega arith))) (above xs (i + 1) (Some i) (λ j b. k (suc j) (omega arith) (omega arith)) ∙ ap Some z)
   at_most (suc e) (x ∷ xs) i last l h k =
       let z : i + 1 + e ≡ i + suc e = omega arith in
       rw (le-leb x wanted (h 0 (omega arith)))
-      (at_most e xs (i + 1) (some i) (omega arith) (λ j b. h (suc j) (omega arith)) (λ j b c. k (suc j) (omega arith) (omega arith)) ∙ ap some z)
+      (at_most e xs (i + 1) (Some i) (omega arith) (λ j b. h (suc j) (omega arith)) (λ j b c. k (suc j) (omega arith) (omega arith)) ∙ ap Some z)
 
 module _ (xs : List ℕ) (wanted : ℕ) where
   -- ---- what the rule knows on the way
@@ -77,11 +77,11 @@ module _ (xs : List ℕ) (wanted : ℕ) where
 
     -- ---- the law
     read_whole : (low : ℕ) → Split low low → (found low 0).place ≡ last_at_most wanted xs
-    read_whole zero s = sym (above wanted xs 0 none (λ j l. s.beyond j (omega arith) l))
+    read_whole zero s = sym (above wanted xs 0 None (λ j l. s.beyond j (omega arith) l))
     read_whole (suc p) s =
         let place : suc p - 1 ≡ 0 + p = omega arith in
         rw (eqb-suc-zero p, place)
-        (sym (at_most wanted p xs 0 none (omega arith) (λ j b. s.below j (omega arith)) (λ j b l. s.beyond j (omega arith) l)))
+        (sym (at_most wanted p xs 0 None (omega arith) (λ j b. s.below j (omega arith)) (λ j b l. s.beyond j (omega arith) l)))
 
     pub never_falls : (low looks : ℕ) → Search xs wanted low looks → (found low looks).place ≡ last_at_most wanted xs
     never_falls low looks h = read_whole low (split h whole)

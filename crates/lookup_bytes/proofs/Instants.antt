@@ -1,7 +1,8 @@
 -- Instants as bytes: how many there are, that instant k is the number of the eight bytes from 8 k on, and the promise of `find` on each of its
 -- ways out. Assumes nothing.
-use mathlib.Core.Path.{◌≡◌, refl, ap, ◌∙◌}
+use mathlib.Core.Path.{◌≡◌, refl, sym, ap, ◌∙◌}
 use mathlib.Core.List.{List, [], ◌∷◌, map}
+use Rattle.std.proofs.Common.{Result, Err}
 use Prim.Native.Nat.{ℕ, zero, suc, ◌+◌, ◌*◌, ◌/◌, ◌%◌, ◌^◌, ◌≤◌, ◌<◌}
 use native.Mathlib.Omega.{arith}
 use lib.Dec.{lit<}
@@ -9,11 +10,12 @@ use lib.ListN.{length, get_or}
 use lib.Seq.{get_or-take, get_or-drop}
 use borrow.Author.Tests.{ne_eqb}
 use Rattle.base.specs.Numbers.{big_endian}
+use Rattle.base.specs.declared.refusal.Refusal.{Refusal}
+use Rattle.base.specs.declared.refusal.Refusal.TheVariants.{WrongLength}
 use Rattle.base.specs.Rows.{row, rows}
 use Rattle.base.proofs.Lists.{spelled}
 use Rattle.base.proofs.Rows.{row-length, rows-length, rows_at}
 use Rattle.lookup.specs.declared.Found.{Found}
-use Rattle.lookup.specs.declared.Found.TheVariants.{Refused}
 use Rattle.lookup.specs.Promise.{FindPromise as FoundAmong}
 use Rattle.lookup.proofs.Promises.{answerable}
 use Rattle.lookup_bytes.specs.Promise.{instants_in, FourRead, FindPromise}
@@ -46,6 +48,9 @@ module _ (bytes : List ℕ) (whole : length bytes % 8 ≡ 0) where
   unfolding instants_in
   instants-length = map-length (rows 8 bytes) ∙ rows-length 8 bytes (length bytes / 8) (lit< tt) eights
 
+  pub count_is : length bytes / 8 ≡ length (instants_in bytes)
+  count_is = sym instants-length
+
   module _ (k : ℕ) (inside : 8 * k + 8 ≤ length bytes) where
     byte_of : (i j : ℕ) → i < 8 → j ≡ 8 * k + i → get_or (row 8 bytes k) i 0 ≡ get_or bytes j 0
     unfolding row
@@ -71,11 +76,11 @@ module _ (bytes : List ℕ) (whole : length bytes % 8 ≡ 0) where
 
 -- ---- the promise on each way out
 module _ (bytes : List ℕ) (wanted : ℕ) where
-  pub refused-2 : (length bytes % 8 ≡ 0 → ⊥) → FindPromise bytes wanted (Refused 2)
+  pub refused-2 : (length bytes % 8 ≡ 0 → ⊥) → FindPromise bytes wanted (Err WrongLength)
   refused-2 h =
       let a = answerable (instants_in bytes) wanted in
       record { found = a.found; promised = a.promised; answer = rw (ne_eqb (length bytes % 8) 0 h) }
 
   -- bytes of the right length have the answer of `lookup::find`
-  pub as_numbers : (r : Found) → length bytes % 8 ≡ 0 → FoundAmong (instants_in bytes) wanted r → FindPromise bytes wanted r
+  pub as_numbers : (r : Result Found Refusal) → length bytes % 8 ≡ 0 → FoundAmong (instants_in bytes) wanted r → FindPromise bytes wanted r
   as_numbers r whole p = record { found = r; promised = p; answer = rw whole }

@@ -1,59 +1,39 @@
-// Finds an instant among instants that come as bytes, eight each, the first byte highest (paper 02, request 14). There is no room to make a list
-// of numbers of them, so each instant is read where it stands; the rule is that of `lookup::find`.
+// Finds an instant among instants that come as bytes, eight each, the first byte highest (paper 02,
+// request 14). There is no room to make a list of numbers of them, so each instant is read where it
+// stands; the rule is that of `lookup::find`.
 #![tactic(auto)]
 
-ghost use Rattle.std.specs.Prelude.{◌≡◌, ◌+◌, ◌*◌, ◌%◌, ◌^◌, ◌≤◌, ◌<◌, length, get_or};
-ghost use Rattle.lookup.specs.Halving.{Search};
+ghost use Rattle.std.specs.Prelude.{◌≡◌, ◌+◌, ◌*◌, ◌/◌, ◌%◌, ◌^◌, ◌≤◌, ◌<◌, length, get_or};
+ghost use Rattle.lookup.specs.Answer.{Halved};
 ghost use Rattle.lookup_bytes.specs.Promise.{instants_in, FourRead, FindPromise};
 
-use base::refusal::{LIST_TOO_LONG, WRONG_LENGTH};
-use base::wide;
+use base::refusal::Refusal;
 use lookup::Found;
 
 // The bytes of an instant.
 const WIDTH: usize = 8;
 
-// The answer of `lookup::find` on the instants that the bytes are. Refused 2: no whole number of instants. Refused 12: more than 100,000.
-pub fn find(instants: &[u8], wanted: u64) -> Found
+// The answer of `lookup::find` on the instants that the bytes are. Refused 2: no whole number of
+// instants. Refused 12: more than 100,000.
+pub fn find(instants: &[u8], wanted: u64) -> Result<Found, Refusal>
     ensures { FindPromise instants.now wanted result }
 {
     if instants.len() % WIDTH != 0 {
-        return Found::Refused(WRONG_LENGTH);
+        return Err(Refusal::WrongLength);
     }
     if lookup::MOST_INSTANTS < instants.len() / WIDTH {
-        return Found::Refused(LIST_TOO_LONG);
+        return Err(Refusal::ListTooLong);
     }
-    let end = halve(instants, wanted);
-    lookup::answer(end.low, end.looks)
+    Ok(halve(instants, wanted))
 }
 
-// Where halving ends: `low`, which `high` has met, and the entries looked at.
-#[derive(Clone, Copy)]
-struct End {
-    low: usize,
-    looks: usize,
-}
-
-fn halve(instants: &[u8], wanted: u64) -> End
-    requires { (length instants.now % 8 ≡ 0) × (length instants.now ≤ 800000) }
-    ensures { Search (instants_in instants.now) wanted result.low result.looks }
+fn halve(instants: &[u8], wanted: u64) -> Found
+    requires whole { length instants.now % 8 ≡ 0 }
+    requires few { length instants.now ≤ 800000 }
+    requires count { length instants.now / 8 ≡ length (instants_in instants.now) }
+    ensures { Halved (instants_in instants.now) wanted result }
 {
-    let mut low = 0;
-    let mut high = instants.len() / WIDTH;
-    let mut looks = 0;
-    while low < high {
-        let half = (low + high) / 2;
-        if instant_at(instants, half) <= wanted {
-            low = half + 1;
-        } else {
-            high = half;
-        }
-        looks += 1;
-    }
-    End {
-        low: low,
-        looks: looks,
-    }
+    lookup::halve(instants.len() / WIDTH, wanted, |place| instant_at(instants, place))
 }
 
 // Read in two halves, each a sum from its lowest byte on, so that the eight bytes are compiled to one load.
@@ -77,5 +57,5 @@ fn four(bytes: &[u8], at: usize) -> u64
 fn number(b0: u8, b1: u8, b2: u8, b3: u8) -> u64
     ensures { (result ≡ b0 * 2 ^ 24 + b1 * 2 ^ 16 + b2 * 2 ^ 8 + b3) × (result < 2 ^ 32) }
 {
-    wide(b3) + 0x100 * wide(b2) + 0x1_0000 * wide(b1) + 0x100_0000 * wide(b0)
+    u64::from(b3) + 0x100 * u64::from(b2) + 0x1_0000 * u64::from(b1) + 0x100_0000 * u64::from(b0)
 }

@@ -1,9 +1,10 @@
-// Runs the lookup on the records of standard input and writes a line for each answer: what tests/lookup_vectors.py makes, with the answers
-// that it worked out by other means.
+// Runs the lookup on the records of standard input and writes a line for each answer: what
+// tests/lookup_vectors.py makes, with the answers that it worked out by other means.
 #![tactic(auto)]
 
 ghost use Rattle.std.specs.Prelude.{◌<◌};
 
+use base::refusal::Refusal;
 use lookup::Found;
 use std::io;
 use std::io::Input;
@@ -13,18 +14,16 @@ fn main(rt: HostRuntime) -> io::Result<()> {
     // One more than the lookup takes.
     let mut space = [0u64; 100_001];
     let instants: &mut [u64] = &mut space;
-    let mut left = vectors::MOST_RECORDS;
-    while left > 0 {
+    for _ in 0..vectors::MOST_RECORDS {
         if !turn(&rt, &mut *instants)? {
             return Ok(());
         }
-        left -= 1;
     }
     Ok(())
 }
 
-// Reads a record and runs it on the first instants; false at the end of the input. A record: the operation, three bytes of nothing, how many
-// instants (4 bytes), and a number (8 bytes).
+// Reads a record and runs it on the first instants; false at the end of the input. A record: the
+// operation, three bytes of nothing, how many instants (4 bytes), and a number (8 bytes).
 fn turn(rt: &(impl Input + Print), instants: &mut [u64]) -> io::Result<bool> {
     let mut record = [0u8; 16];
     if !filled(rt, &mut record) {
@@ -44,11 +43,11 @@ fn run(
     value: u64,
 ) -> io::Result<bool> {
     match operation {
-        1 => return Ok(filled_numbers(rt, instants)),
-        2 => return Ok(load_series(rt, instants, value)),
+        1 => Ok(filled_numbers(rt, instants)),
+        2 => Ok(load_series(rt, instants, value)),
         _ => {
             put_found(rt, lookup::find(instants, value))?;
-            return Ok(true);
+            Ok(true)
         }
     }
 }
@@ -73,25 +72,23 @@ fn put_series(instants: &mut [u64], first: u64, step: u64, modulus: u64)
     requires { 0 < modulus }
 {
     let mut x = first;
-    let mut i: usize = 0;
-    while i < instants.len() {
-        instants[i] = x % modulus;
-        x = std::num::wrapping_add_u64(x, step);
-        i += 1;
+    for instant in instants {
+        *instant = x % modulus;
+        x = x.wrapping_add(step);
     }
 }
 
-fn put_found(rt: &impl Print, found: Found) -> io::Result<()> {
+fn put_found(rt: &impl Print, found: Result<Found, Refusal>) -> io::Result<()> {
     match found {
-        Found::At { place, looks } => {
+        Ok(Found { place: Some(place), looks }) => {
             field(rt, b"at ", place as u64)?;
             put_looks(rt, looks)
         }
-        Found::Nothing { looks } => {
+        Ok(Found { place: None, looks }) => {
             put(rt, b"none")?;
             put_looks(rt, looks)
         }
-        Found::Refused(r) => vectors::put_refusal(rt, r),
+        Err(r) => vectors::put_refusal(rt, r.number()),
     }
 }
 

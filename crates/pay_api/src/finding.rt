@@ -13,12 +13,12 @@ pub fn pcd_pay_find(instants: &[u8], wanted: u64, answer: &mut [u8]) -> u8
     ensures { FindAnswer instants.now wanted result answer.old answer.new }
 {
     match lookup_bytes::find(instants, wanted) {
-        Found::At { place, looks } => return answers::put(
+        Ok(Found { place: Some(place), looks }) => answers::put(
             0,
             (place as u64 + 1) * UPPER + looks as u64,
             answer,
         ),
-        Found::Nothing { looks } => return answers::put(0, looks as u64, answer),
-        Found::Refused(number) => return answers::put(number, 0, answer),
+        Ok(Found { place: None, looks }) => answers::put(0, looks as u64, answer),
+        Err(refusal) => answers::put(refusal.number(), 0, answer),
     }
 }

@@ -1,10 +1,11 @@
 -- The answer of a lookup (02, request 1) in a book as a line of text. Definitions only.
-use Rattle.std.specs.Prelude.{◌≡◌, List, ◌++◌, ℕ, take, get_or}
+use Rattle.std.specs.Prelude.{◌≡◌, List, ◌++◌, ℕ, take, get_or, Option, Some, None, Result, Ok, Err}
+use Rattle.base.specs.declared.refusal.Refusal.{Refusal}
+use Rattle.base.specs.Refusals.{number}
 use Rattle.base.specs.Ranges.{tabulate}
 use Rattle.book.specs.Layout.{cycles_said, instant_at}
 use Rattle.io.specs.Counts.{IsPrefixLen}
 use Rattle.lookup.specs.declared.Found.{Found}
-use Rattle.lookup.specs.declared.Found.TheVariants.{At, Nothing, Refused}
 use Rattle.command.specs.Text.{ascii, decimal}
 
 -- the first n numbers of a list are the instants of a book's entries, in order, all of them
@@ -24,7 +25,10 @@ none_text looks = (ascii "none looks " ++ decimal looks) ++ ascii "\n"
 abbrev pub refused_text : ℕ → List ℕ
 refused_text number = (ascii "refusal " ++ decimal number) ++ ascii "\n"
 
-abbrev pub answer_line : List ℕ → Found → List ℕ
-answer_line instants (At place looks) = found_text place (get_or instants place 0) looks
-answer_line instants (Nothing looks) = none_text looks
-answer_line instants (Refused number) = refused_text number
+abbrev pub place_line : List ℕ → ℕ → Option ℕ → List ℕ
+place_line instants looks (Some place) = found_text place (get_or instants place 0) looks
+place_line instants looks None = none_text looks
+
+abbrev pub answer_line : List ℕ → Result Found Refusal → List ℕ
+answer_line instants (Ok f) = place_line instants f.looks f.place
+answer_line instants (Err r) = refused_text (number r)

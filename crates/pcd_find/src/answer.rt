@@ -5,6 +5,7 @@ ghost use Rattle.command.specs.Text.{Adds};
 ghost use Rattle.pcd_find.specs.Answers.{answer_line, found_text, none_text, refused_text, InstantsPromise};
 
 use command::{ErrorOutput, put, put_field};
+use base::refusal::Refusal;
 use lookup::Found;
 
 const LINE: usize = 128;
@@ -51,26 +52,22 @@ fn show_answer(rt: &(impl Print + ErrorOutput), instants: &[u64], wanted: u64) -
 fn show_line(
     rt: &(impl Print + ErrorOutput),
     instants: &[u64],
-    found: Found,
+    found: Result<Found, Refusal>,
     line: &mut [u8],
 ) -> bool {
     let n = put_answer(&mut *line, instants, found);
     command::show(rt, b"pcd-find", &line[..n])
 }
 
-fn put_answer(out: &mut [u8], instants: &[u64], found: Found) -> usize
+fn put_answer(out: &mut [u8], instants: &[u64], found: Result<Found, Refusal>) -> usize
     ensures { Adds out.old 0 (answer_line instants.now found) out.new result }
 {
     match found {
-        Found::At { place, looks } => {
-            return put_found(out, place as u64, element(instants, place), looks as u64);
+        Ok(Found { place: Some(place), looks }) => {
+            put_found(out, place as u64, element(instants, place), looks as u64)
         }
-        Found::Nothing { looks } => {
-            return put_none(out, looks as u64);
-        }
-        Found::Refused(number) => {
-            return put_refused(out, number);
-        }
+        Ok(Found { place: None, looks }) => put_none(out, looks as u64),
+        Err(refusal) => put_refused(out, refusal.number()),
     }
 }
 

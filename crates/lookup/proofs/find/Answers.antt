@@ -1,4 +1,4 @@
--- `lookup::find` meets its contract: a list that is too long is refused, and of any other the answer is that for the rule's low and looks.
+-- `lookup::find` meets its contract: a list that is too long is refused, and any other is halved, its instants read where they stand.
 -- Assumes nothing.
 use native.Mathlib.Omega.{arith}
 use Rattle.lookup.proofs.Promises.{refused-12, accepted}
@@ -8,6 +8,4 @@ pub returns-then-instants-gt-MOST_INSTANTS : goal.returns-then-instants-gt-MOST_
 returns-then-instants-gt-MOST_INSTANTS c = let a = c.args in refused-12 a.instants.now a.wanted (omega arith)
 
 pub returns : goal.returns
-returns c =
-    let a = c.args in
-    accepted a.instants.now a.wanted _ _ _ (omega arith) c.halve-end.ensures c.answer.ensures
+returns c = accepted c.args.instants.now c.args.wanted (omega arith) c.halve.ensures

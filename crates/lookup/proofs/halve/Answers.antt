@@ -1,24 +1,24 @@
 use native.Mathlib.Omega.{arith}
-use Rattle.lookup.proofs.Halving.{start, turn_past, turn_before, ended}
+use Rattle.std.proofs.Common.{refl, ap}
+use Rattle.lookup.proofs.Halving.{turn_past, turn_before, ended}
+use Rattle.lookup.proofs.Promises.{place_is}
 use Rattle.lookup.proofs.halve.Goals as goal
-use Rattle.lookup.proofs.halve.Goals.{then-instants-half, else-instants-half}
-
-pub loop-low-init : goal.loop-low-init
-loop-low-init c = start _ _
-
-pub loop-low-smaller : goal.loop-low-smaller
-loop-low-smaller c = elim c.if-instants-half.branch [ then-instants-half w ↦ omega arith | else-instants-half w ↦ omega arith ]
+use Rattle.lookup.proofs.halve.Goals.{then-instant-wanted, else-instant-wanted}
 
 pub loop-low-preserved : goal.loop-low-preserved
-loop-low-preserved c =
-    let a = c.args in
-    let mid = c.middle-half.ensures in
-    elim c.if-instants-half.branch [
-      | then-instants-half w ↦
-          turn_past a.instants.now a.wanted c.loop-low.invariant (omega arith) mid (omega arith) (omega arith) (omega arith) (omega arith)
-      | else-instants-half w ↦
-          turn_before a.instants.now a.wanted c.loop-low.invariant (omega arith) mid (omega arith) (omega arith) (omega arith) (omega arith)
+loop-low-preserved g c =
+    let turn = c.loop-low.invariant in
+    let read = c.requires.1.1.1 _ _ (omega arith) c.instant.ensures in
+    elim c.if-instant-wanted.branch [
+      | then-instant-wanted w ↦ turn_past g.instants c.args.wanted turn (omega arith) refl refl (omega arith) (omega arith) (omega arith)
+      | else-instant-wanted w ↦ turn_before g.instants c.args.wanted turn (omega arith) refl refl (omega arith) (omega arith) (omega arith)
     ]
 
 pub returns : goal.returns
-returns c = ended _ _ c.loop-low.invariant (omega arith)
+returns g c =
+    record {
+      low = c.loop-low.low;
+      looks = c.loop-low.looks;
+      rule = ended _ _ c.loop-low.invariant (omega arith);
+      found_is = ap (λ p. record { place = p; looks = c.loop-low.looks }) (place_is _ c.loop-low.looks _ c.checked_sub.ensures);
+    }

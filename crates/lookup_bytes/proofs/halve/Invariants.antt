@@ -1,13 +1,6 @@
--- `lookup_bytes::halve` meets its contract: each turn is one of the halving rule on the instants that the bytes are. Assumes nothing.
-use mathlib.Core.Path.{◌≡◌}
-use Prim.Native.Nat.{◌-◌, ◌/◌}
-use lib.ListN.{length}
+-- `lookup_bytes::halve` halves the instants that the bytes are. Assumes nothing.
 use Rattle.lookup_bytes.specs.Promise.{instants_in}
-use Rattle.lookup.proofs.Halving.{Turn}
 use Rattle.lookup_bytes.proofs.halve.Given as goal
 
-abbrev pub invariant-loop-low : goal.invariant-loop-low
-invariant-loop-low l = (length (instants_in l.instants) ≡ length l.instants / 8) × Turn (instants_in l.instants) l.wanted l.low l.high l.looks
-
-abbrev pub decreases-loop-low : goal.decreases-loop-low
-decreases-loop-low l = l.high - l.low
+abbrev pub ghost-halve : goal.ghost-halve
+ghost-halve a = instants_in a.instant.0.now
