@@ -8,7 +8,12 @@ pub fn pcd_find(instants: &[u64], wanted: u64, out: &mut [u64; 2]) -> u8
     ensures { FindCrossed instants.now wanted result out.old out.new }
 {
     match lookup::find(instants, wanted) {
-        Ok(Found { place: Some(place), looks }) => {
+        Ok(
+            Found {
+                place: Some(place),
+                looks,
+            },
+        ) => {
             *out = [place as u64 + 1, looks as u64];
             0
         }

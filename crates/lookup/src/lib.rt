@@ -49,5 +49,8 @@ pub fn halve<F: Fn(usize) -> u64>(count: usize, wanted: u64, instant: F) -> Foun
         }
         looks += 1;
     }
-    Found { place: low.checked_sub(1), looks }
+    Found {
+        place: low.checked_sub(1),
+        looks,
+    }
 }

@@ -33,7 +33,11 @@ fn halve(instants: &[u8], wanted: u64) -> Found
     requires count { length instants.now / 8 ≡ length (instants_in instants.now) }
     ensures { Halved (instants_in instants.now) wanted result }
 {
-    lookup::halve(instants.len() / WIDTH, wanted, |place| instant_at(instants, place))
+    lookup::halve(
+        instants.len() / WIDTH,
+        wanted,
+        |place| instant_at(instants, place),
+    )
 }
 
 // Read in two halves, each a sum from its lowest byte on, so that the eight bytes are compiled to one load.

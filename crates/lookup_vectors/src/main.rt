@@ -80,7 +80,12 @@ fn put_series(instants: &mut [u64], first: u64, step: u64, modulus: u64)
 
 fn put_found(rt: &impl Print, found: Result<Found, Refusal>) -> io::Result<()> {
     match found {
-        Ok(Found { place: Some(place), looks }) => {
+        Ok(
+            Found {
+                place: Some(place),
+                looks,
+            },
+        ) => {
             field(rt, b"at ", place as u64)?;
             put_looks(rt, looks)
         }

@@ -1,20 +1,15 @@
 -- What the inner entries promise of an answer, said of its number and result, which the code hands over as numbers; and that the lookup's
 -- two numbers fit the halves. Assumes nothing.
-use mathlib.Core.Path.{◌≡◌, refl, sym, ap, ◌∙◌, subst}
-use mathlib.Core.Bool.{Bool, true, false, cond, not}
-use mathlib.Core.List.{List, [], ◌∷◌, ◌++◌}
-use Prim.Native.Nat.{ℕ, ◌-◌, ◌^◌, ◌≤◌, ◌<◌}
+use Rattle.std.proofs.Common.{◌≡◌, refl, sym, ap, ◌∙◌, subst, Bool, true, false, cond, not, List, [], ◌∷◌, ◌++◌, ℕ, ◌-◌, ◌^◌, ◌≤◌, ◌<◌, Option, Some, None, Result, Ok, Err}
 use native.Mathlib.Omega.{arith}
 use lib.Dec.{T, eqb, ltb}
 use lib.Ieee.{Float, is_nan, ne}
 use lib.ListN.{length}
 use borrow.Author.Tests.{ltb-false}
-use Rattle.base.specs.Refusal.{Line, answered, refusal}
-use Rattle.base.proofs.Refusals.{answered-of, answered-number, answered-append, answered-none}
-use Rattle.std.proofs.Common.{Result, Ok, Err}
 use Rattle.base.specs.declared.refusal.Refusal.{Refusal}
-use Rattle.base.specs.Refusals.{number_of}
-use Rattle.base.proofs.Lines as named
+use Rattle.base.specs.declared.refusal.Refusal.TheVariants.{ListTooLong}
+use Rattle.base.specs.Refusals.{Line, answered, refusal, number_of, given_or}
+use Rattle.base.proofs.Lines.{answered-of, answered-append, answered-none, numbered}
 use Rattle.time_code.specs.declared.TimeCode.{TimeCode}
 use Rattle.time_code.specs.Codec.{decode_lines as timeLines, decoded as timeDecoded, time_of}
 use Rattle.time_code.specs.Promise.{DecodePromise as TimePromise}
@@ -24,11 +19,10 @@ use Rattle.float1750.specs.Promise.{DecodePromise as NumberPromise}
 use Rattle.float1750.specs.Word.{value}
 use Rattle.float1750.proofs.Encoding.{nan_unread, is_number}
 use Rattle.lookup.specs.declared.Found.{Found}
-use Rattle.lookup.specs.declared.Found.TheVariants.{At, Nothing, Refused}
-use Rattle.lookup.specs.Answer.{find_lines, values_of, given}
+use Rattle.lookup.specs.Answer.{find_lines, found, place_of, looks_of}
 use Rattle.lookup_bytes.specs.Promise.{instants_in, length_lines, FindPromise}
 use Rattle.pay_api.specs.Answer.{Answered}
-use Rattle.pay_api.specs.Entries.{InstantAnswer, NumberAnswer, FindAnswer, found_result}
+use Rattle.pay_api.specs.Entries.{InstantAnswer, NumberAnswer, PlaceFits, Halves, FindAnswer, found_result}
 
 -- an answer's number and result, each by what it is
 pub said : {number number' result result' r : ℕ} {old new : List ℕ} → number ≡ number' → result ≡ result'
@@ -47,7 +41,7 @@ pub instant-answer : {year number result r : ℕ} {bytes old new : List ℕ} {d 
     → result ≡ instant_or0 d → Answered number result r old new → InstantAnswer year bytes r old new
 unfolding timeDecoded
 instant-answer {year} {number} {result} {r} {bytes} p n e =
-    said (n ∙ p.refusal_is) (e ∙ ap instant_or0 p.answer ∙ named.answered-of instant_or0 Err (timeLines year bytes) (Ok (time_of bytes)))
+    said (n ∙ p.refusal_is) (e ∙ ap instant_or0 p.answer ∙ answered-of instant_or0 Err (timeLines year bytes) (Ok (time_of bytes)))
 
 -- the bits, or 0
 abbrev pub bits_or0 : Result Float Refusal → ℕ
@@ -58,7 +52,7 @@ pub number-answer : {number result r : ℕ} {bytes old new : List ℕ} {d : Resu
     → result ≡ bits_or0 d → Answered number result r old new → NumberAnswer bytes r old new
 unfolding numberDecoded
 number-answer {number} {result} {r} {bytes} p n e =
-    said (n ∙ p.refusal_is) (e ∙ ap bits_or0 p.answer ∙ named.answered-of bits_or0 Err (numberLines bytes) (Ok (value bytes)))
+    said (n ∙ p.refusal_is) (e ∙ ap bits_or0 p.answer ∙ answered-of bits_or0 Err (numberLines bytes) (Ok (value bytes)))
 
 -- what a word reads as is no NaN, so its bits can be asked for
 pub has_bits : {bytes : List ℕ} {d : Result Float Refusal} {x : Float} → NumberPromise bytes d → d ≡ Ok x → T (not (is_nan x))
@@ -71,60 +65,43 @@ has_bits {bytes} {d} {x} p e = go (ne x x) refl
 -- ---- the lookup
 
 -- a result that is 0 of every refusal is 0 where the lines hold already
-already : (ls : List Line) (given : Found) → answered (λ n. 0) ls (found_result (answered Refused ls given)) ≡ found_result (answered Refused ls given)
+already : (ls : List Line) (given : Result Found Refusal)
+    → answered (λ n. 0) ls (found_result (answered Err ls given)) ≡ found_result (answered Err ls given)
 already [] given = refl
 already (l ∷ ls) given = go l.holds (already ls given)
   where
-    go : (b : Bool) → answered (λ n. 0) ls (found_result (answered Refused ls given)) ≡ found_result (answered Refused ls given)
-        → cond b 0 (answered (λ n. 0) ls (found_result (cond b (Refused l.number) (answered Refused ls given))))
-        ≡ found_result (cond b (Refused l.number) (answered Refused ls given))
+    go : (b : Bool) → answered (λ n. 0) ls (found_result (answered Err ls given)) ≡ found_result (answered Err ls given)
+        → cond b 0 (answered (λ n. 0) ls (found_result (cond b (Err l.reason) (answered Err ls given))))
+        ≡ found_result (cond b (Err l.reason) (answered Err ls given))
     go true later = refl
     go false later = later
 
--- the number of a refusal, 0 for none
-abbrev pub refused_as : Found → ℕ
-refused_as f = (values_of f).number
+placed : (o : Option ℕ) → ((place : ℕ) → o ≡ Some place → place < 100000) → PlaceFits o
+placed (Some place) h = h place refl
+placed None h = tt
 
-not_refused : (low looks : ℕ) → refused_as (given low looks) ≡ 0
-not_refused low looks = go (eqb low 0)
-  where
-    go : (b : Bool) → refused_as (cond b (Nothing looks) (At (low - 1) looks)) ≡ 0
-    go true = refl
-    go false = refl
-
--- a place and its looks fit the two halves of a result
-pub record Halves (place looks : ℕ) : Type 0 where
-  pub upper : place < 100000
-  pub lower : looks ≤ 17
-
-module _ {bytes : List ℕ} {wanted : ℕ} {f : Found} (p : FindPromise bytes wanted f) where
+module _ {bytes : List ℕ} {wanted : ℕ} {f : Result Found Refusal} (p : FindPromise bytes wanted f) where
   abbrev xs : List ℕ
   xs = instants_in bytes
 
   abbrev lines : List Line
   lines = length_lines bytes ++ find_lines xs
 
-  number-among : refused_as p.found ≡ refusal (find_lines xs)
-  number-among =
-      let q = p.promised in
-      ap refused_as q.answer
-      ∙ answered-number refused_as Refused (find_lines xs) (given q.low q.looks) (λ n. refl) (not_refused q.low q.looks)
-
-  number_is : refused_as f ≡ refusal lines
+  number_is : number_of f ≡ refusal lines
   number_is =
       let q = p.promised in
-      let g = given q.low q.looks in
-      let answer : f ≡ answered Refused lines g =
-      p.answer ∙ ap (answered Refused (length_lines bytes)) q.answer ∙ sym (answered-append Refused (length_lines bytes) (find_lines xs) g) in
-      ap refused_as answer ∙ answered-number refused_as Refused lines g (λ n. refl) (not_refused q.low q.looks)
+      let g : Result Found Refusal = Ok (found q.low q.looks) in
+      let answer : f ≡ answered Err lines g =
+      p.answer ∙ ap (answered Err (length_lines bytes)) q.answers.answer ∙ sym (answered-append Err (length_lines bytes) (find_lines xs) g) in
+      ap number_of answer ∙ numbered lines (found q.low q.looks)
 
   result_is : found_result f ≡ answered (λ n. 0) lines (found_result p.found)
   result_is =
       let q = p.promised in
       let same : answered (λ n. 0) (find_lines xs) (found_result p.found) ≡ found_result p.found =
-      rw q.answer (already (find_lines xs) (given q.low q.looks)) in
+      rw q.answers.answer (already (find_lines xs) (Ok (found q.low q.looks))) in
       ap found_result p.answer
-      ∙ answered-of found_result Refused (length_lines bytes) p.found
+      ∙ answered-of found_result Err (length_lines bytes) p.found
       ∙ ap (answered (λ n. 0) (length_lines bytes)) (sym same)
       ∙ sym (answered-append (λ n. 0) (length_lines bytes) (find_lines xs) (found_result p.found))
 
@@ -133,32 +110,29 @@ module _ {bytes : List ℕ} {wanted : ℕ} {f : Found} (p : FindPromise bytes wa
   short false h e = ltb-false 100000 (length xs) h
 
   -- where a place is found, it is found among the instants, of which there are few enough
-  found_at : {place looks : ℕ} → f ≡ At place looks → p.found ≡ At place looks
-  found_at {place} {looks} e = (answered-none Refused (length_lines bytes) p.found (At place looks) other (sym p.answer ∙ e)).1
-    where
-      other : (n : ℕ) → Refused n ≡ At place looks → ⊥
-      other n h = let z : ◌≡◌ {A = ℕ} 0 1 = cc in omega arith
+  found_at : {a : Found} → f ≡ Ok a → p.found ≡ Ok a
+  found_at {a} e = (answered-none Err (length_lines bytes) p.found (Ok a) (λ r h. cc) (sym p.answer ∙ e)).1
 
-  pub halves : {place looks : ℕ} → f ≡ At place looks → Halves place looks
-  halves {place} {looks} e =
+  pub halves : {a : Found} → f ≡ Ok a → Halves a.place a.looks
+  halves {a} e =
       let q = p.promised in
       let at = found_at e in
-      let few : length xs ≤ 100000 = short (ltb 100000 (length xs)) refl (sym number-among ∙ ap refused_as at) in
+      let few : length xs ≤ 100000 = short (ltb 100000 (length xs)) refl (sym q.answers.refusal_is ∙ ap number_of at) in
       record {
-        upper = omega (arith, q.there place (rw at));
-        lower = rw at at (q.few_looks 17 (omega arith));
+        upper = placed a.place (λ place there. omega (arith, q.there place (ap place_of at ∙ there)));
+        lower = omega (arith, ap looks_of at, q.few_looks 17 (omega arith));
       }
 
-  lower : (b : Bool) → ltb 100000 (length xs) ≡ b → p.found ≡ cond b (Refused 12) (given p.promised.low p.promised.looks)
-      → (values_of p.found).looks < 2 ^ 32
+  lower : (b : Bool) → ltb 100000 (length xs) ≡ b → p.found ≡ cond b (Err ListTooLong) (Ok (found p.promised.low p.promised.looks))
+      → looks_of p.found < 2 ^ 32
   lower true h e = rw e (omega arith)
   lower false h e = omega (arith, p.promised.few_looks 17 (omega (arith, ltb-false 100000 (length xs) h)))
 
-  pub find_answer : {number result r : ℕ} {old new : List ℕ} → number ≡ refused_as f → result ≡ found_result f
+  pub find_answer : {number result r : ℕ} {old new : List ℕ} → number ≡ number_of f → result ≡ found_result f
       → Answered number result r old new → FindAnswer bytes wanted r old new
   find_answer n e w = record {
     found = p.found;
     promised = p.promised;
-    lower_half = lower (ltb 100000 (length xs)) refl p.promised.answer;
+    lower_half = lower (ltb 100000 (length xs)) refl p.promised.answers.answer;
     answers = said (n ∙ number_is) (e ∙ result_is) w;
   }

@@ -13,25 +13,21 @@ const SPLIT: u64 = 256;
 pub fn pcd_pay_vote_bytes(a: u8, b: u8, c: u8, answer: &mut [u8]) -> u8
     ensures { VoteAnswer (byte_vote a b c) result answer.old answer.new }
 {
-    let voted = votes::vote(a, b, c);
-    let word = voted.word;
-    put_word(word, answer)
+    put_word(votes::vote(a, b, c).word, answer)
 }
 
 // Each bit is the one that at least two copies have.
 pub fn pcd_pay_vote_bits(a: u8, b: u8, c: u8, answer: &mut [u8]) -> u8
     ensures { VoteAnswer (bit_vote a b c) result answer.old answer.new }
 {
-    let voted = votes::vote_bits(a, b, c);
-    let word = voted.word;
-    put_word(word, answer)
+    put_word(votes::vote_bits(a, b, c).word, answer)
 }
 
 fn put_word(word: Word, answer: &mut [u8]) -> u8
     ensures { VoteAnswer word result answer.old answer.new }
 {
     match word {
-        Word::Voted(value) => return answers::put(0, value as u64, answer),
-        Word::Erased => return answers::put(0, SPLIT, answer),
+        Word::Voted(value) => answers::put(Ok(u64::from(value)), answer),
+        Word::Erased => answers::put(Ok(SPLIT), answer),
     }
 }

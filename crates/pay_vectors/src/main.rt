@@ -1,5 +1,5 @@
-// Runs the pay system's entries on the records of standard input and writes a line for each answer: what tests/pay_vectors.py makes, with the
-// answers that it worked out by other means.
+// Runs the pay system's entries on the records of standard input and writes a line for each answer:
+// what tests/pay_vectors.py makes, with the answers that it worked out by other means.
 #![tactic(auto)]
 
 ghost use Rattle.std.specs.Prelude.{◌<◌};
@@ -12,12 +12,10 @@ fn main(rt: HostRuntime) -> io::Result<()> {
     // Two instants more than the lookup takes.
     let mut space = [0u8; 800_016];
     let bytes: &mut [u8] = &mut space;
-    let mut left = vectors::MOST_RECORDS;
-    while left > 0 {
+    for _ in 0..vectors::MOST_RECORDS {
         if !turn(&rt, &mut *bytes)? {
             return Ok(());
         }
-        left -= 1;
     }
     Ok(())
 }
@@ -34,8 +32,9 @@ struct Asked {
     value: u64,
 }
 
-// Reads a record and runs it on the first bytes; false at the end of the input. A record: the operation, the length of the answer, three copies,
-// three bytes of nothing, how many bytes (8 bytes), and a number (8 bytes).
+// Reads a record and runs it on the first bytes; false at the end of the input. A record: the
+// operation, the length of the answer, three copies, three bytes of nothing, how many bytes (8 bytes),
+// and a number (8 bytes).
 fn turn(rt: &(impl Input + Print), bytes: &mut [u8]) -> io::Result<bool> {
     let mut record = [0u8; 24];
     if !filled(rt, &mut record) {
@@ -57,18 +56,18 @@ fn turn(rt: &(impl Input + Print), bytes: &mut [u8]) -> io::Result<bool> {
 }
 
 fn run(rt: &(impl Input + Print), asked: Asked, bytes: &mut [u8]) -> io::Result<bool> {
-    let operation = asked.operation;
-    match operation {
-        6 => return Ok(filled(rt, bytes)),
-        7 => return Ok(load_series(rt, bytes)),
+    match asked.operation {
+        6 => Ok(filled(rt, bytes)),
+        7 => Ok(load_series(rt, bytes)),
         _ => {
             let mut answer = [0xEEu8; 20];
-            return put_answer(rt, asked, bytes, &mut answer);
+            put_answer(rt, asked, bytes, &mut answer)
         }
     }
 }
 
-// Fills the bytes with the instants of a series, whose first one, step and modulus are read from the input.
+// Fills the bytes with the instants of a series, whose first one, step and modulus are read from the
+// input.
 fn load_series(rt: &impl Input, bytes: &mut [u8]) -> bool {
     let mut given = [0u8; 24];
     if !filled(rt, &mut given) {
@@ -84,18 +83,15 @@ fn load_series(rt: &impl Input, bytes: &mut [u8]) -> bool {
     true
 }
 
-// The numbers from the first on by the step, modulo 2^64, and of each the remainder: eight bytes each, the first byte highest.
+// The numbers from the first on by the step, modulo 2^64, and of each the remainder: eight bytes each,
+// the first byte highest.
 fn put_series(bytes: &mut [u8], first: u64, step: u64, modulus: u64)
     requires { 0 < modulus }
 {
     let mut x = first;
-    let mut i: usize = 0;
-    while i < bytes.len() / 8 {
-        let at = 8 * i;
-        let end = at + 8;
-        base::big_endian::write(x % modulus, &mut bytes[at..end]);
-        x = std::num::wrapping_add_u64(x, step);
-        i += 1;
+    for instant in bytes.chunks_exact_mut(8) {
+        base::big_endian::write(x % modulus, instant);
+        x = x.wrapping_add(step);
     }
 }
 
@@ -106,7 +102,7 @@ fn put_answer(rt: &impl Print, asked: Asked, bytes: &[u8], answer: &mut [u8]) ->
         return Ok(false);
     }
     let returned = call(asked, bytes, &mut answer[0..lent]);
-    vectors::put_number(rt, returned as u64)?;
+    vectors::put_number(rt, u64::from(returned))?;
     put(rt, b" ")?;
     vectors::put_bytes(rt, answer)?;
     put(rt, b"\n")?;
@@ -114,12 +110,11 @@ fn put_answer(rt: &impl Print, asked: Asked, bytes: &[u8], answer: &mut [u8]) ->
 }
 
 fn call(asked: Asked, bytes: &[u8], answer: &mut [u8]) -> u8 {
-    let operation = asked.operation;
-    match operation {
-        1 => return pay_api::pcd_pay_vote_bytes(asked.first, asked.second, asked.third, answer),
-        2 => return pay_api::pcd_pay_vote_bits(asked.first, asked.second, asked.third, answer),
-        3 => return pay_api::pcd_pay_instant(bytes, asked.value, answer),
-        4 => return pay_api::pcd_pay_number(bytes, answer),
-        _ => return pay_api::pcd_pay_find(bytes, asked.value, answer),
+    match asked.operation {
+        1 => pay_api::pcd_pay_vote_bytes(asked.first, asked.second, asked.third, answer),
+        2 => pay_api::pcd_pay_vote_bits(asked.first, asked.second, asked.third, answer),
+        3 => pay_api::pcd_pay_instant(bytes, asked.value, answer),
+        4 => pay_api::pcd_pay_number(bytes, answer),
+        _ => pay_api::pcd_pay_find(bytes, asked.value, answer),
     }
 }

@@ -4,8 +4,8 @@ ghost use Rattle.book.specs.Faults.{view_refusal};
 ghost use Rattle.command.specs.Text.{Adds};
 ghost use Rattle.pcd_find.specs.Answers.{answer_line, found_text, none_text, refused_text, InstantsPromise};
 
-use command::{ErrorOutput, put, put_field};
 use base::refusal::Refusal;
+use command::{ErrorOutput, put, put_field};
 use lookup::Found;
 
 const LINE: usize = 128;
@@ -63,9 +63,12 @@ fn put_answer(out: &mut [u8], instants: &[u64], found: Result<Found, Refusal>) -
     ensures { Adds out.old 0 (answer_line instants.now found) out.new result }
 {
     match found {
-        Ok(Found { place: Some(place), looks }) => {
-            put_found(out, place as u64, element(instants, place), looks as u64)
-        }
+        Ok(
+            Found {
+                place: Some(place),
+                looks,
+            },
+        ) => { put_found(out, place as u64, element(instants, place), looks as u64) }
         Ok(Found { place: None, looks }) => put_none(out, looks as u64),
         Err(refusal) => put_refused(out, refusal.number()),
     }

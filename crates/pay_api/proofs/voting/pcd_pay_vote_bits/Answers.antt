@@ -5,4 +5,4 @@ use Rattle.pay_api.proofs.Results.{said}
 use Rattle.pay_api.proofs.voting.pcd_pay_vote_bits.Goals as goal
 
 pub returns : goal.returns
-returns c = said refl (ap word_result c.vote_bits-voted.ensures.answer_is.word-is) c.put_word.ensures
+returns c = said refl (ap word_result c.vote_bits.ensures.answer_is.word-is) c.put_word.ensures

@@ -5,4 +5,4 @@ use Rattle.pay_api.proofs.Results.{said}
 use Rattle.pay_api.proofs.voting.pcd_pay_vote_bytes.Goals as goal
 
 pub returns : goal.returns
-returns c = said refl (ap word_result c.vote-voted.ensures.word-is) c.put_word.ensures
+returns c = said refl (ap word_result c.vote.ensures.word-is) c.put_word.ensures
