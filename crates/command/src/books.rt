@@ -1,8 +1,9 @@
 // The bytes of a book in a file: its header comes first and tells how much room the rest may need. A program keeps a small room and a large one
 // in functions of their own, so that the large one is on the stack only while a large book is read.
+ghost use Rattle.std.specs.Prelude.{IfSome};
 ghost use Rattle.io.specs.Counts.{IsPrefixLen};
 
-use crate::files::{Filled, fill};
+use crate::files::fill;
 use crate::saying::{ErrorOutput, fail};
 use crate::text::put;
 use std::io::Read;
@@ -14,14 +15,14 @@ pub const LARGE_ROOM: usize = 16_714_745;
 
 const SMALL_CYCLES: u8 = 32;
 
-// Which room a book needs; neither where it cannot be read.
-#[derive(Clone, Copy)]
+// Which room a book needs, the smaller one first.
+#[derive(Clone, Copy, Debug, PartialEq, Eq, PartialOrd, Ord)]
 pub enum Room {
-    Neither,
     Small,
     Large,
 }
 
+// A book whose header is read.
 #[derive(Clone, Copy)]
 pub struct Begun {
     pub room: Room,
@@ -29,41 +30,39 @@ pub struct Begun {
     pub length: usize,
 }
 
-// Reads the header of a book; a line says where it cannot be read.
+// Reads the header of a book; none where it cannot be read, and a line says so.
 pub fn begin_book(
     rt: &impl ErrorOutput,
     program: &[u8],
     path: &[u8],
     file: &mut impl Read,
     header: &mut [u8; 4],
-) -> Begun
-    ensures { IsPrefixLen result.length header.new }
+) -> Option<Begun>
+    ensures { IfSome result (λ begun. IsPrefixLen begun.length header.new) }
 {
-    let got = fill(file, header, 0);
-    if let Some(e) = got.failed {
-        fail(rt, program, path, e);
-        return Begun {
-            room: Room::Neither,
-            length: 0,
-        };
-    }
-    Begun {
-        room: room_for(header[0], header[1]),
-        length: got.length,
+    match fill(file, header, 0) {
+        Ok(length) => Some(Begun {
+            room: room_for(header[0], header[1]),
+            length,
+        }),
+        Err(failed) => {
+            fail(rt, program, path, failed.error);
+            None
+        }
     }
 }
 
 // The room for as many cycles as the header's first two bytes say. More than 255 are refused, whatever follows.
 fn room_for(high: u8, low: u8) -> Room {
-    if high == 0 {
-        if SMALL_CYCLES < low {
-            return Room::Large;
-        }
+    if high == 0 && SMALL_CYCLES < low {
+        Room::Large
+    } else {
+        Room::Small
     }
-    Room::Small
 }
 
-// Puts the header into the room and reads the rest behind it; a line says where it cannot be read.
+// Puts the header into the room and reads the rest behind it, and answers how long the book is; none
+// where it cannot be read, and a line says so.
 pub fn read_book(
     rt: &impl ErrorOutput,
     program: &[u8],
@@ -71,13 +70,15 @@ pub fn read_book(
     file: &mut impl Read,
     header: &[u8],
     room: &mut [u8],
-) -> Filled
-    ensures { IsPrefixLen result.length room.new }
+) -> Option<usize>
+    ensures { IfSome result (λ length. IsPrefixLen length room.new) }
 {
     let at = put(&mut *room, 0, header);
-    let got = fill(file, &mut *room, at);
-    if let Some(e) = got.failed {
-        fail(rt, program, path, e);
+    match fill(file, room, at) {
+        Ok(length) => Some(length),
+        Err(failed) => {
+            fail(rt, program, path, failed.error);
+            None
+        }
     }
-    got
 }

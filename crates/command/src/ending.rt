@@ -2,6 +2,7 @@
 // is the status that the wrapper ends with: 0, or 1 where something was not done; 2 where a comparison is refused.
 use crate::arguments::argument;
 use crate::files::fill;
+use crate::lines::line;
 use crate::saying::ErrorOutput;
 use crate::text::{put, put_number};
 use std::fmt::InlineText;
@@ -55,8 +56,12 @@ fn is_for_writing<R: Files>(rt: &R, number: u8) -> io::Result<bool> {
     let name = InlineText::<32>::of(format_args!("/proc/self/fdinfo/{number}"));
     let mut file = File::open(rt, name.as_str())?;
     let mut space = [0u8; 128];
-    let got = fill(&mut file, &mut space, 0);
-    Ok(told_for_writing(crate::lines::line(&space[..got.length], 1)))
+    // What was read before a read failed counts.
+    let n = match fill(&mut file, &mut space, 0) {
+        Ok(n) => n,
+        Err(failed) => failed.length,
+    };
+    Ok(told_for_writing(line(&space[..n], 1)))
 }
 
 fn told_for_writing(flags: &[u8]) -> bool {

@@ -1,16 +1,16 @@
 // The bytes of a file.
-ghost use Rattle.command.specs.Files.{FillPromise, SomePromise};
+ghost use Rattle.command.specs.Files.{FillPromise};
 
 use crate::saying::{ErrorOutput, fail};
 use std::io::Read;
 use std::rt::Files;
 use std::{fs, io};
 
-// How far a room is filled, and the error where a read failed before the file ended.
+// A read has failed before the file ended: how far the room is filled by then, and the error.
 #[derive(Clone, Copy)]
-pub struct Filled {
+pub struct ReadFailed {
     pub length: usize,
-    pub failed: Option<io::Error>,
+    pub error: io::Error,
 }
 
 // Opens a file to read it; a line says where it cannot be opened. The library opens a file by text
@@ -32,39 +32,18 @@ fn open_named<R: Files>(rt: &R, path: &[u8]) -> io::Result<R::File> {
     fs::open(rt, name)
 }
 
-// Reads into the room from place `from` on, until the file ends, a read fails or the room is full. What stood before that place stays.
-pub fn fill(file: &mut impl Read, room: &mut [u8], from: usize) -> Filled
+// Reads into the room from place `from` on, until the file ends, a read fails or the room is full,
+// and answers how far it is filled. What stood before that place stays.
+pub fn fill(file: &mut impl Read, room: &mut [u8], from: usize) -> Result<usize, ReadFailed>
     ensures { FillPromise room.old from room.new result }
 {
     let mut end = from;
     while end < room.len() {
-        let some = read_some(file, &mut room[end..]);
-        if some.length == 0 {
-            return Filled {
-                length: end,
-                failed: some.failed,
-            };
+        match file.read(&mut room[end..]) {
+            Ok(0) => return Ok(end),
+            Ok(n) => end += n,
+            Err(error) => return Err(ReadFailed { length: end, error }),
         }
-        end += some.length;
     }
-    Filled {
-        length: room.len(),
-        failed: None,
-    }
-}
-
-// One read: nothing where the file has ended, and where it fails.
-fn read_some(file: &mut impl Read, room: &mut [u8]) -> Filled
-    ensures { SomePromise room.old room.new result }
-{
-    match file.read(room) {
-        Ok(n) => Filled {
-            length: n,
-            failed: None,
-        },
-        Err(e) => Filled {
-            length: 0,
-            failed: Some(e),
-        },
-    }
+    Ok(room.len())
 }

@@ -15,7 +15,7 @@ mod words;
 pub use arguments::{argument, argument_count};
 pub use books::{Begun, LARGE_ROOM, Room, SMALL_ROOM, begin_book, read_book};
 pub use ending::end;
-pub use files::{Filled, fill, open};
+pub use files::{ReadFailed, fill, open};
 pub use lines::line;
 pub use numbers::number;
 pub use saying::{ErrorOutput, fail, refuse, say, show, write_error};

@@ -7,8 +7,8 @@ ghost use Rattle.command.specs.Text.{Adds};
 ghost use Rattle.cycle_input.specs.Reading.{ReadPromise, frames_text};
 
 use base::format::MAJOR_FRAME;
-use command::{ErrorOutput, put_field};
-use std::io::{Error, Input};
+use command::{ErrorOutput, ReadFailed, put_field};
+use std::io::Input;
 
 // How far standard input was read: whether the area holds a cycle now; else it has ended, within a frame where it is cut, or could not be read.
 #[derive(Clone, Copy)]
@@ -52,9 +52,9 @@ fn gather(
     let mut frames = before;
     let mut bits: u64 = 0;
     while frames < u64::MAX {
-        let got = command::fill(&mut input, &mut *frame, 0);
-        if got.length < frame.len() {
-            return stopped(rt, program, frames, bits, got.length, got.failed);
+        match command::fill(&mut input, &mut *frame, 0) {
+            Ok(length) if length == frame.len() => (),
+            got => return stopped(rt, program, frames, bits, got),
         }
         let brought = cycle_frames::next(year, &mut *area, bits, frame);
         if brought.refusal != 0 {
@@ -77,13 +77,12 @@ fn stopped(
     program: &[u8],
     frames: u64,
     bits: u64,
-    length: usize,
-    failed: Option<Error>,
+    got: Result<usize, ReadFailed>,
 ) -> Read
     ensures { result.whole ≡ false }
 {
-    if let Some(e) = failed {
-        command::fail(rt, program, b"standard input", e);
+    if let Err(failed) = got {
+        command::fail(rt, program, b"standard input", failed.error);
     }
     say_left_out(
         rt,
@@ -91,19 +90,19 @@ fn stopped(
         first_held(frames, bits),
         cycle_frames::held(bits),
     );
-    if failed.is_some() {
-        return ended(true, false, frames);
+    match got {
+        Err(_) => ended(true, false, frames),
+        Ok(0) => ended(false, false, frames),
+        Ok(_) => {
+            command::say(
+                rt,
+                program,
+                b"standard input",
+                b"it ends within a frame, which is left out",
+            );
+            ended(false, true, frames)
+        }
     }
-    if length == 0 {
-        return ended(false, false, frames);
-    }
-    command::say(
-        rt,
-        program,
-        b"standard input",
-        b"it ends within a frame, which is left out",
-    );
-    ended(false, true, frames)
 }
 
 fn found(frames: u64) -> Read

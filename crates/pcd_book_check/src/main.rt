@@ -27,12 +27,18 @@ fn check_from<R: Env + Files + Print + ErrorOutput>(rt: &R, i: usize, count: usi
     let mut accepted = false;
     if let Some(mut file) = command::open(rt, b"pcd-book-check", &space[..n]) {
         let mut header = [0u8; 4];
-        let begun = command::begin_book(rt, b"pcd-book-check", &space[..n], &mut file, &mut header);
-        let k = begun.length;
-        match begun.room {
-            Room::Neither => (),
-            Room::Small => accepted = in_small_room(rt, &mut file, &space[..n], &header[..k]),
-            Room::Large => accepted = in_large_room(rt, &mut file, &space[..n], &header[..k]),
+        if let Some(begun) = command::begin_book(
+            rt,
+            b"pcd-book-check",
+            &space[..n],
+            &mut file,
+            &mut header,
+        ) {
+            let k = begun.length;
+            match begun.room {
+                Room::Small => accepted = in_small_room(rt, &mut file, &space[..n], &header[..k]),
+                Room::Large => accepted = in_large_room(rt, &mut file, &space[..n], &header[..k]),
+            }
         }
     }
     check_from(rt, i + 1, count) & accepted
@@ -68,10 +74,8 @@ fn check(
     header: &[u8],
     room: &mut [u8],
 ) -> bool {
-    let got = command::read_book(rt, b"pcd-book-check", path, file, header, &mut *room);
-    if got.failed.is_some() {
+    let Some(n) = command::read_book(rt, b"pcd-book-check", path, file, header, &mut *room) else {
         return false;
-    }
-    let n = got.length;
+    };
     verdict::report(rt, path, &room[..n])
 }

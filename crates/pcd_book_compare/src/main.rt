@@ -5,9 +5,10 @@
 
 mod differences;
 
+ghost use Rattle.std.specs.Prelude.{IfSome};
 ghost use Rattle.io.specs.Counts.{IsPrefixLen};
 
-use command::{ErrorOutput, Filled, LARGE_ROOM, Room, SMALL_ROOM};
+use command::{ErrorOutput, LARGE_ROOM, Room, SMALL_ROOM};
 use std::io::Read;
 use std::rt::{Env, Files};
 
@@ -18,11 +19,10 @@ fn main(rt: HostRuntime) {
     command::end(&rt, status);
 }
 
-// A book: its file where that could be opened, the room that it needs, and how much of its header
-// there is.
+// A book that is open: its file, the room that it needs, and how much of its header there is.
 #[derive(Drop)]
 struct Opened<F> {
-    file: Option<F>,
+    file: F,
     room: Room,
     length: usize,
 }
@@ -40,27 +40,25 @@ fn compare_from<R: Env + Files + Print + ErrorOutput>(rt: &R, i: usize, count: u
     let mut second_header = [0u8; 4];
     let first = begin_at(rt, i, &mut first_header);
     let second = begin_at(rt, i + 1, &mut second_header);
-    let k = first.length;
-    let m = second.length;
-    let room = larger(first.room, second.room);
     let mut status = REFUSED;
-    if let (Some(mut a), Some(mut b)) = (first.file, second.file) {
-        match room {
-            Room::Neither => (),
+    if let (Some(mut a), Some(mut b)) = (first, second) {
+        let k = a.length;
+        let m = b.length;
+        match a.room.max(b.room) {
             Room::Small => status = in_small_rooms(
                 rt,
                 i,
-                &mut a,
+                &mut a.file,
                 &first_header[..k],
-                &mut b,
+                &mut b.file,
                 &second_header[..m],
             ),
             Room::Large => status = in_large_rooms(
                 rt,
                 i,
-                &mut a,
+                &mut a.file,
                 &first_header[..k],
-                &mut b,
+                &mut b.file,
                 &second_header[..m],
             ),
         }
@@ -68,38 +66,23 @@ fn compare_from<R: Env + Files + Print + ErrorOutput>(rt: &R, i: usize, count: u
     higher(status, compare_from(rt, i + 2, count))
 }
 
-// Opens the book that an argument names and reads its header.
-fn begin_at<R: Env + Files + ErrorOutput>(rt: &R, i: usize, header: &mut [u8; 4]) -> Opened<R::File>
-    ensures { IsPrefixLen result.length header.new }
+// Opens the book that an argument names and reads its header; none where that cannot be done.
+fn begin_at<R: Env + Files + ErrorOutput>(
+    rt: &R,
+    i: usize,
+    header: &mut [u8; 4],
+) -> Option<Opened<R::File>>
+    ensures { IfSome result (λ opened. IsPrefixLen opened.length header.new) }
 {
     let mut path = io::buffer();
     let n = command::argument(rt, i, &mut path);
-    let Some(mut file) = command::open(rt, b"pcd-book-compare", &path[..n]) else {
-        return Opened {
-            file: None,
-            room: Room::Neither,
-            length: 0,
-        };
-    };
-    let begun = command::begin_book(rt, b"pcd-book-compare", &path[..n], &mut file, header);
-    Opened {
-        file: Some(file),
+    let mut file = command::open(rt, b"pcd-book-compare", &path[..n])?;
+    let begun = command::begin_book(rt, b"pcd-book-compare", &path[..n], &mut file, header)?;
+    Some(Opened {
+        file,
         room: begun.room,
         length: begun.length,
-    }
-}
-
-// The room that serves both; neither where one cannot be read.
-fn larger(a: Room, b: Room) -> Room {
-    match a {
-        Room::Neither => Room::Neither,
-        Room::Small => b,
-        Room::Large => match b {
-            Room::Neither => Room::Neither,
-            Room::Small => Room::Large,
-            Room::Large => Room::Large,
-        },
-    }
+    })
 }
 
 fn higher(a: u64, b: u64) -> u64 {
@@ -128,11 +111,9 @@ fn read_first_small(
     b: &mut impl Read,
     second_header: &[u8],
 ) -> u64 {
-    let got = read_at(rt, i, a, first_header, &mut *first);
-    if got.failed.is_some() {
+    let Some(n) = read_at(rt, i, a, first_header, &mut *first) else {
         return REFUSED;
-    }
-    let n = got.length;
+    };
     beside_small_room(rt, i, &first[..n], b, second_header)
 }
 
@@ -170,11 +151,9 @@ fn read_first_large(
     b: &mut impl Read,
     second_header: &[u8],
 ) -> u64 {
-    let got = read_at(rt, i, a, first_header, &mut *first);
-    if got.failed.is_some() {
+    let Some(n) = read_at(rt, i, a, first_header, &mut *first) else {
         return REFUSED;
-    }
-    let n = got.length;
+    };
     beside_large_room(rt, i, &first[..n], b, second_header)
 }
 
@@ -199,11 +178,9 @@ fn compare(
     second_header: &[u8],
     second: &mut [u8],
 ) -> u64 {
-    let got = read_at(rt, after(i), b, second_header, &mut *second);
-    if got.failed.is_some() {
+    let Some(n) = read_at(rt, after(i), b, second_header, &mut *second) else {
         return REFUSED;
-    }
-    let n = got.length;
+    };
     differences::report(rt, first, &second[..n])
 }
 
@@ -218,8 +195,8 @@ fn read_at(
     file: &mut impl Read,
     header: &[u8],
     room: &mut [u8],
-) -> Filled
-    ensures { IsPrefixLen result.length room.new }
+) -> Option<usize>
+    ensures { IfSome result (λ length. IsPrefixLen length room.new) }
 {
     let mut path = io::buffer();
     let n = command::argument(rt, i, &mut path);

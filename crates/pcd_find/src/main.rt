@@ -30,24 +30,30 @@ fn find_from<R: Env + Files + Print + ErrorOutput>(rt: &R, i: usize, count: usiz
     let mut answered = false;
     if let Some(mut file) = command::open(rt, b"pcd-find", &space[..n]) {
         let mut header = [0u8; 4];
-        let begun = command::begin_book(rt, b"pcd-find", &space[..n], &mut file, &mut header);
-        let k = begun.length;
-        match begun.room {
-            Room::Neither => (),
-            Room::Small => answered = in_small_room(
-                rt,
-                &mut file,
-                &space[..n],
-                &header[..k],
-                i + 1,
-            ),
-            Room::Large => answered = in_large_room(
-                rt,
-                &mut file,
-                &space[..n],
-                &header[..k],
-                i + 1,
-            ),
+        if let Some(begun) = command::begin_book(
+            rt,
+            b"pcd-find",
+            &space[..n],
+            &mut file,
+            &mut header,
+        ) {
+            let k = begun.length;
+            match begun.room {
+                Room::Small => answered = in_small_room(
+                    rt,
+                    &mut file,
+                    &space[..n],
+                    &header[..k],
+                    i + 1,
+                ),
+                Room::Large => answered = in_large_room(
+                    rt,
+                    &mut file,
+                    &space[..n],
+                    &header[..k],
+                    i + 1,
+                ),
+            }
         }
     }
     find_from(rt, i + 2, count) & answered
@@ -86,11 +92,9 @@ fn find(
     asked: usize,
     room: &mut [u8],
 ) -> bool {
-    let got = command::read_book(rt, b"pcd-find", path, file, header, &mut *room);
-    if got.failed.is_some() {
+    let Some(n) = command::read_book(rt, b"pcd-find", path, file, header, &mut *room) else {
         return false;
-    }
-    let n = got.length;
+    };
     match instant_of(rt, asked) {
         Some(wanted) => answer::report(rt, path, &room[..n], wanted),
         None => false,

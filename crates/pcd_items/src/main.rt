@@ -86,16 +86,18 @@ fn turn(
     area: &mut [u8],
     text: &mut [u8],
 ) -> Input {
-    let got = command::fill(input, &mut *area, 0);
-    if let Some(e) = got.failed {
-        command::fail(rt, b"pcd-items", b"standard input", e);
-        return Input::Failed;
-    }
-    if got.length == 0 {
+    let length = match command::fill(input, &mut *area, 0) {
+        Ok(length) => length,
+        Err(failed) => {
+            command::fail(rt, b"pcd-items", b"standard input", failed.error);
+            return Input::Failed;
+        }
+    };
+    if length == 0 {
         return Input::Ended;
     }
-    if got.length < area.len() {
-        say_rest(rt, got.length as u64);
+    if length < area.len() {
+        say_rest(rt, length as u64);
         return Input::Failed;
     }
     if show_frame(rt, year, frame, area, text) {

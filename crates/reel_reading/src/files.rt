@@ -40,14 +40,18 @@ pub(crate) fn more<R: Env + Files + Input + ErrorOutput>(
     }
     let kept = to_front(&mut *buffer, reel.at, reel.end);
     let got = command::fill(&mut *source, &mut *buffer, kept);
-    if let Some(e) = got.failed {
-        tell(rt, program, argument(reel.file), e);
-    }
+    let end = match got {
+        Ok(end) => end,
+        Err(failed) => {
+            tell(rt, program, argument(reel.file), failed.error);
+            failed.length
+        }
+    };
     // A file that has ended is closed.
-    if got.length < buffer.len() {
+    if end < buffer.len() {
         *source = Source::Nothing;
     }
-    filled(reel, got.length, got.failed.is_some())
+    filled(reel, end, got.is_err())
 }
 
 fn is_nothing<I, F>(source: &Source<I, F>) -> bool {

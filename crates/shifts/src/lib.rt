@@ -31,10 +31,15 @@ pub fn read<R: Files + ErrorOutput>(rt: &R, program: &[u8], path: &[u8], text: &
             failed: true,
         };
     };
-    let got = command::fill(&mut file, &mut *text, 0);
-    let n = got.length;
+    let Ok(n) = command::fill(&mut file, &mut *text, 0) else {
+        command::say(rt, program, path, b"the file cannot be read");
+        return Lines {
+            length: 0,
+            failed: true,
+        };
+    };
     let fits = n < text.len();
-    let whole = check_file(rt, program, path, &text[..n], fits, got.failed.is_some());
+    let whole = check_file(rt, program, path, &text[..n], fits);
     Lines {
         length: n,
         failed: !whole,
@@ -47,12 +52,7 @@ fn check_file(
     path: &[u8],
     text: &[u8],
     fits: bool,
-    failed: bool,
 ) -> bool {
-    if failed {
-        command::say(rt, program, path, b"the file cannot be read");
-        return false;
-    }
     if !fits {
         command::say(
             rt,

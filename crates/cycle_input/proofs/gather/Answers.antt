@@ -9,9 +9,6 @@ use Rattle.cycle_input.proofs.gather.Goals as goal
 pub loop-frames-init : goal.loop-frames-init
 loop-frames-init g c = (record { frames = []; cycles = []; left = 0; so_far = begun _ }, refl, refl, omega arith)
 
-pub returns-then-got-frame : goal.returns-then-got-frame
-returns-then-got-frame g c = not_whole _ c.stopped.ensures
-
 pub returns-then-brought-ne0 : goal.returns-then-brought-ne0
 returns-then-brought-ne0 g c = not_whole _ c.ended.ensures
 
