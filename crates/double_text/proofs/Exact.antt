@@ -11,7 +11,6 @@ use lib.Pow.{pow-add}
 use borrow.Author.Tests.{le-leb, eqb-true}
 use Rattle.io.specs.Digits.{hex_digit_ascii, last_digits}
 use Rattle.command.specs.Numbers.{digit_of, grown}
-use Rattle.double_text.specs.declared.Lowest.{Lowest}
 use Rattle.double_text.specs.Decimal.{stripped, product, lowest_terms}
 use Rattle.double_text.proofs.Laws.{glyph_is}
 

@@ -1,5 +1,5 @@
 -- Digits that are spelled and multiplied from the last one on, zeros in front, a decimal point, and lowest terms. Assumes nothing.
-use mathlib.Core.Path.{◌≡◌, refl, sym, ap, subst, ◌∙◌}
+use mathlib.Core.Path.{◌≡◌, refl, sym, ap, ◌∙◌}
 use mathlib.Core.Bool.{Bool, true, false, ◌&&◌, cond}
 use mathlib.Core.List.{List, [], ◌∷◌, ◌++◌, append-nil}
 use Prim.Native.Nat.{ℕ, zero, suc, ◌+◌, ◌-◌, ◌*◌, ◌/◌, ◌%◌, ◌^◌, ◌≤◌, ◌<◌}
@@ -7,16 +7,14 @@ use native.Mathlib.Nat.{le_refl, le_of_suc-le-suc, not-suc-le-zero, mod-lt, add_
 use native.Mathlib.Nat.{mul-add-div_right, mul-add-mod_self_right, pow-zero, pow-suc}
 use native.Mathlib.Numerals.{add-one}
 use native.Mathlib.Omega.{arith}
-use lib.Dec.{T, eqb, ltb}
-use lib.Ieee.{Float, nan, inf, fin, binary64, to_bits, ne}
-use lib.Ieee.Compare.{differs_from_itself}
+use lib.Dec.{eqb}
+use lib.Ieee.{Float, nan, inf, fin, binary64, to_bits, is_nan}
 use lib.ListN.{length, take, drop, set, get_or, length-append, length-take, length-drop, drop_of_length-le}
 use lib.Seq.{take-suc, take_at, drop_at, take-set-le, length-take-le, append_snoc, drop-cons, take_all, drop-length}
-use borrow.Author.Tests.{lt-ltb, le-ltb, eq-eqb, ne_eqb}
+use borrow.Author.Tests.{lt-ltb, eq-eqb, ne_eqb}
 use Rattle.io.specs.Digits.{hex_digit_ascii, last_digits}
 use Rattle.command.specs.Text.{Adds, ascii}
 use Rattle.command.proofs.TextLaws.{adds_append}
-use Rattle.double_text.specs.declared.Lowest.{Lowest}
 use Rattle.double_text.specs.Decimal.{stripped, behind_point, lowest_terms, LeadingZeros, Multiplied, pointed, bits_text, double_text}
 
 -- ---- digits
@@ -241,11 +239,14 @@ whole n (suc p) h = absurd (not-suc-le-zero h)
 
 -- ---- doubles
 
-pub nan_text : (v : Float) → ne v v ≡ true → double_text v ≡ ascii "nan"
-nan_text v h = ap double_text (differs_from_itself v (subst T (sym h) tt))
+pub nan_text : (v : Float) → true ≡ is_nan v → ascii "nan" ≡ double_text v
+unfolding is_nan
+nan_text nan h = refl
+nan_text (inf s) h = cc
+nan_text (fin s m e) h = cc
 
-pub number-text : (v : Float) → ne v v ≡ false → double_text v ≡ bits_text (to_bits binary64 v)
-unfolding ne
-number-text nan h = absurd (subst T h tt)
+pub number-text : (v : Float) → false ≡ is_nan v → bits_text (to_bits binary64 v) ≡ double_text v
+unfolding is_nan
+number-text nan h = cc
 number-text (inf s) h = refl
 number-text (fin s m e) h = refl

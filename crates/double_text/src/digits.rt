@@ -9,10 +9,8 @@ pub(crate) fn expand(digits: &mut [u8], n: u64, factor: u8, k: usize)
     ensures { digits.new ≡ Io·digits 10 (length digits.old) (n * factor ^ k) }
 {
     spell(&mut *digits, n);
-    let mut i: usize = 0;
-    while i < k {
+    for _ in 0..k {
         multiply(&mut *digits, factor);
-        i += 1;
     }
 }
 
@@ -20,10 +18,8 @@ pub(crate) fn expand(digits: &mut [u8], n: u64, factor: u8, k: usize)
 fn spell(digits: &mut [u8], n: u64)
     ensures { digits.new ≡ Io·digits 10 (length digits.old) n }
 {
-    let mut i = digits.len();
     let mut rest = n;
-    while 0 < i {
-        i -= 1;
+    for i in (0..digits.len()).rev() {
         digits[i] = b'0' + (rest % 10) as u8;
         rest /= 10;
     }
@@ -34,10 +30,8 @@ fn multiply(digits: &mut [u8], factor: u8)
     requires { factor ≤ 9 }
     ensures { Multiplied digits.old factor digits.new }
 {
-    let mut i = digits.len();
-    let mut carry: u8 = 0;
-    while 0 < i {
-        i -= 1;
+    let mut carry = 0;
+    for i in (0..digits.len()).rev() {
         let product = digits[i] % 16 * factor + carry;
         digits[i] = b'0' + product % 10;
         carry = product / 10;
@@ -49,12 +43,11 @@ pub(crate) fn leading_zeros(digits: &[u8], cut: usize) -> usize
     requires { cut ≤ length digits.now }
     ensures { LeadingZeros digits.now cut result }
 {
-    let mut first: usize = 0;
-    while first + 1 < cut {
+    let last = cut.saturating_sub(1);
+    for first in 0..last {
         if digits[first] != b'0' {
             return first;
         }
-        first += 1;
     }
-    first
+    last
 }

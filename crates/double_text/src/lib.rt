@@ -36,8 +36,8 @@ struct Lowest {
 pub fn put_double(out: &mut [u8], at: usize, x: f64) -> usize
     ensures { Adds out.old at (double_text x) out.new result }
 {
-    // Only a NaN differs from itself. Its bit pattern is not fixed, so it is not asked for.
-    if x != x {
+    // A NaN's bit pattern is not fixed, so it is not asked for.
+    if x.is_nan() {
         return put(out, at, b"nan");
     }
     put_bits(out, at, f64::to_bits(x))
@@ -98,20 +98,18 @@ fn lowest_terms(n: u64, p: usize) -> Lowest
     ensures { (result ≡ lowest_terms n p) × (result.power ≤ p) }
 {
     let mut numerator = n;
-    let mut power = p;
-    while 0 < power {
+    for i in 0..p {
         if numerator % 2 != 0 {
             return Lowest {
-                numerator: numerator,
-                power: power,
+                numerator,
+                power: p - i,
             };
         }
         numerator /= 2;
-        power -= 1;
     }
     Lowest {
-        numerator: numerator,
-        power: power,
+        numerator,
+        power: 0,
     }
 }
 

@@ -1,5 +1,4 @@
 -- `double_text::put_bits` meets its contract: the sign, and the number behind it. Assumes nothing.
-use native.Mathlib.Omega.{arith}
 use borrow.Author.Tests.{eq-eqb, ne_eqb}
 use Rattle.command.proofs.TextLaws.{adds_append}
 use Rattle.double_text.specs.Decimal.{bits_text}

@@ -1,5 +1,4 @@
 -- `double_text::put_scaled` meets its contract: a whole number, or a fraction in lowest terms. Assumes nothing.
-use native.Mathlib.Omega.{arith}
 use borrow.Author.Tests.{le-leb, lt-leb}
 use Rattle.double_text.specs.Decimal.{scaled_text}
 use Rattle.double_text.proofs.put_scaled.Goals as goal
