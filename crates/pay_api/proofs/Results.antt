@@ -3,7 +3,7 @@
 use Rattle.std.proofs.Common.{◌≡◌, refl, sym, ap, ◌∙◌, subst, Bool, true, false, cond, not, List, [], ◌∷◌, ◌++◌, ℕ, ◌-◌, ◌^◌, ◌≤◌, ◌<◌, Option, Some, None, Result, Ok, Err}
 use native.Mathlib.Omega.{arith}
 use lib.Dec.{T, eqb, ltb}
-use lib.Ieee.{Float, is_nan, ne}
+use lib.Ieee.{Float, is_nan}
 use lib.ListN.{length}
 use borrow.Author.Tests.{ltb-false}
 use Rattle.base.specs.declared.refusal.Refusal.{Refusal}
@@ -17,7 +17,7 @@ use Rattle.float1750.specs.Codec.{decode_lines as numberLines, decoded as number
 use Rattle.float1750.specs.Double.{bits_of}
 use Rattle.float1750.specs.Promise.{DecodePromise as NumberPromise}
 use Rattle.float1750.specs.Word.{value}
-use Rattle.float1750.proofs.Encoding.{nan_unread, is_number}
+use Rattle.float1750.proofs.Encoding.{nan_unread}
 use Rattle.lookup.specs.declared.Found.{Found}
 use Rattle.lookup.specs.Answer.{find_lines, found, place_of, looks_of}
 use Rattle.lookup_bytes.specs.Promise.{instants_in, length_lines, FindPromise}
@@ -56,11 +56,11 @@ number-answer {number} {result} {r} {bytes} p n e =
 
 -- what a word reads as is no NaN, so its bits can be asked for
 pub has_bits : {bytes : List ℕ} {d : Result Float Refusal} {x : Float} → NumberPromise bytes d → d ≡ Ok x → T (not (is_nan x))
-has_bits {bytes} {d} {x} p e = go (ne x x) refl
+has_bits {bytes} {d} {x} p e = go (is_nan x) refl
   where
-    go : (b : Bool) → ne x x ≡ b → T (not (is_nan x))
+    go : (b : Bool) → is_nan x ≡ b → T (not (is_nan x))
     go true h = absurd (nan_unread x h bytes (sym p.answer ∙ e))
-    go false h = rw (is_number x h) tt
+    go false h = rw h tt
 
 -- ---- the lookup
 

@@ -1,6 +1,6 @@
 -- `float1750::encode` meets its contract: where it answers 0 the word that it stored reads as x, and where it answers 11 nothing does.
 -- Its tests take the parts of a word's bit pattern apart (`proofs/Encoding.antt`). Assumes nothing.
-use mathlib.Core.Path.{sym, subst}
+use mathlib.Core.Path.{sym, ◌∙◌, subst}
 use Prim.Native.Nat.{◌^◌, ◌<◌}
 use native.Mathlib.Omega.{arith}
 use lib.Dec.{T}
@@ -9,11 +9,10 @@ use lib.Ieee.Bits.{to_bits-lt}
 use Rattle.std.proofs.Common.{Err}
 use Rattle.base.specs.declared.refusal.Refusal.TheVariants.{NoWordForDouble}
 use Rattle.float1750.specs.Double.{bits_of}
-use Rattle.float1750.proofs.Encoding.{Wordless, unread, nan_unread, is_number, ragged, too_low, too_high}
+use Rattle.float1750.proofs.Encoding.{Wordless, unread, nan_unread, ragged, too_low, too_high}
 use Rattle.float1750.proofs.Encoding.{sign_bit, magnitude_in, biased_in, Passed, passed-normal, passed-pattern}
 use Rattle.float1750.proofs.RoundTrip.{read_back, zero-back}
 use Rattle.float1750.proofs.Promises.{Answered, wrong-area, refused, written}
-use borrow.Author.Rules.{rules}
 use Rattle.float1750.proofs.encode.Goals as goal
 use Rattle.float1750.proofs.encode.Goals.{Else-bits-eq0, Else-level-ge-END_LEVEL, Start}
 
@@ -38,21 +37,18 @@ returns-then-out-ne-WORD_LENGTH c =
     let p = wrong-area c.args.x c.args.out.now c.if-out-ne-WORD_LENGTH.true in
     record { answer = p.answer; promise = p.promise }
 
-pub returns-then-x : goal.returns-then-x
-returns-then-x c =
-    let f = held (goal.at.returns-then-x c).Start in
-    let none = nan_unread c.args.x c.if-x.true in
+pub returns-then-is_nan : goal.returns-then-is_nan
+returns-then-is_nan c =
+    let f = held (goal.at.returns-then-is_nan c).Start in
+    let none = nan_unread c.args.x (sym c.is_nan.ensures.value ∙ c.if-is_nan.true) in
     let p = refused c.args.x c.args.out.now f c.if-out-ne-WORD_LENGTH.false none in
     record { answer = p.answer; promise = p.promise }
-
-pub float_to_bits-bits : goal.float_to_bits-bits
-float_to_bits-bits c = rw (is_number c.args.x c.if-x.false) tt
 
 pub returns-then-bits-eq0 : goal.returns-then-bits-eq0
 returns-then-bits-eq0 c =
     let back = zero-back c.args.x (held (goal.at.returns-then-bits-eq0 c).Start) c.if-bits-eq0.true in
     let six = c.if-out-ne-WORD_LENGTH.false in
-    let p = written c.args.x c.args.out.now six 0 128 (omega arith) (omega arith) _ c.put_word.ensures back in
+    let p = written c.args.x c.args.out.now six 0 128 (omega arith) (omega arith) _ (c.copy_from_slice.ensures.after ∙ c.word_of.ensures) back in
     record { answer = p.answer; promise = p.promise }
 
 pub returns-then-rest-ne0 : goal.returns-then-rest-ne0
@@ -81,8 +77,8 @@ twos_complement-requires c =
     let N = passed-normal _ (passed (goal.at.twos_complement-requires c).Else-level-ge-END_LEVEL) in
     (omega (arith, N.least), omega (arith, N.bit, N.most))
 
-pub put_word-requires-2 : goal.put_word-requires-2
-put_word-requires-2 c = (search rules, c.twos_complement.ensures.1, omega arith)
+pub word_of-requires-2 : goal.word_of-requires-2
+word_of-requires-2 c = (c.twos_complement.ensures.1, omega arith)
 
 pub returns : goal.returns
 returns c =
@@ -93,5 +89,5 @@ returns c =
     let f = held (goal.at.returns c).Start in
     let back = read_back c.args.x f (sign_bit b) (magnitude_in b) (biased_in b) N (passed-pattern b P) in
     let six = c.if-out-ne-WORD_LENGTH.false in
-    let p = written c.args.x c.args.out.now six _ (biased_in b) m.1 N.byte _ c.put_word-2.ensures (rw m.0 back) in
+    let p = written c.args.x c.args.out.now six _ (biased_in b) m.1 N.byte _ (c.copy_from_slice-2.ensures.after ∙ c.word_of-2.ensures) (rw m.0 back) in
     record { answer = p.answer; promise = p.promise }
