@@ -1,14 +1,14 @@
 -- What the inner entries promise of an answer, said of its number and result, which the code hands over as numbers; and that the lookup's
 -- two numbers fit the halves. Assumes nothing.
-use Rattle.std.proofs.Common.{◌≡◌, refl, sym, ap, ◌∙◌, subst, Bool, true, false, cond, not, List, [], ◌∷◌, ◌++◌, ℕ, ◌-◌, ◌^◌, ◌≤◌, ◌<◌, Option, Some, None, Result, Ok, Err}
+use Rattle.std.proofs.Common.{◌≡◌, refl, sym, ap, ◌∙◌, subst, Bool, true, false, cond, not, List, [], ◌∷◌, ◌++◌, ℕ, ◌^◌, ◌≤◌, ◌<◌, Option, Some, None, Result, Ok, Err}
 use native.Mathlib.Omega.{arith}
-use lib.Dec.{T, eqb, ltb}
+use lib.Dec.{T, ltb}
 use lib.Ieee.{Float, is_nan}
 use lib.ListN.{length}
 use borrow.Author.Tests.{ltb-false}
 use Rattle.base.specs.declared.refusal.Refusal.{Refusal}
 use Rattle.base.specs.declared.refusal.Refusal.TheVariants.{ListTooLong}
-use Rattle.base.specs.Refusals.{Line, answered, refusal, number_of, given_or}
+use Rattle.base.specs.Refusals.{Line, answered, refusal, number_of}
 use Rattle.base.proofs.Lines.{answered-of, answered-append, answered-none, numbered}
 use Rattle.time_code.specs.declared.TimeCode.{TimeCode}
 use Rattle.time_code.specs.Codec.{decode_lines as timeLines, decoded as timeDecoded, time_of}
