@@ -48,11 +48,9 @@ fn run_with<R: Env + Files + Input + Clock + Print + ErrorOutput>(
     path: &[u8],
     text: &mut [u8],
 ) -> bool {
-    let named = shifts::read(rt, b"pcd-frames", path, &mut *text);
-    if named.failed {
+    let Some(k) = shifts::read(rt, b"pcd-frames", path, &mut *text) else {
         return false;
-    }
-    let k = named.length;
+    };
     read_reel(rt, &text[..k])
 }
 
@@ -197,8 +195,11 @@ fn change_shift(s: State, shifts: &[u8]) -> State
     ensures { ShiftChanged s result }
 {
     let k = s.begun;
-    let now = shifts::nth(shifts, k);
-    let reel = reel_reading::change_duty(s.reel, now.operator);
+    let operator = match shifts::nth(shifts, k) {
+        Ok(now) => now.operator,
+        Err(_) => 0,
+    };
+    let reel = reel_reading::change_duty(s.reel, operator);
     let mut r = s;
     r.reel = reel;
     r.begun = one_more(k);
@@ -215,11 +216,10 @@ fn one_more(k: usize) -> usize {
 
 // From which byte on shift k is; no reel has as many where there is no such shift.
 fn begins(shifts: &[u8], k: usize) -> u64 {
-    let s = shifts::nth(shifts, k);
-    if s.fault != 0 {
-        return NEVER;
+    match shifts::nth(shifts, k) {
+        Ok(shift) => shift.begin,
+        Err(_) => NEVER,
     }
-    s.begin
 }
 
 fn refused(rt: &impl ErrorOutput, s: State, number: u8) -> State
