@@ -3,7 +3,7 @@ use mathlib.Core.Path.{◌≡◌, sym, ap, ◌∙◌}
 use mathlib.Core.Bool.{Bool, true, false, not}
 use mathlib.Core.List.{List}
 use Prim.Native.Nat.{ℕ, ◌+◌, ◌*◌, ◌-◌, ◌≤◌, ◌<◌}
-use lib.Dec.{leb}
+use lib.Dec.{eqb, leb}
 use lib.ListN.{take, drop}
 use borrow.Author.Tests.{eq-eqb, ne_eqb, lt-ltb, le-ltb}
 use Rattle.base.proofs.Rows.{row_is}
@@ -18,9 +18,9 @@ module _ (y : ℕ) (bodies : List ℕ) (i : ℕ) where
   abbrev part : List ℕ
   part = take (65536 * i + 65536 - 65536 * i) (drop (65536 * i) bodies)
 
-  pub row-tested : (r b : Bool) → r ≡ is_cycle y part → not r ≡ b → bad_row y bodies i ≡ b
+  pub row-tested : (r : Bool) → r ≡ is_cycle y part → not r ≡ bad_row y bodies i
   unfolding bad_row
-  row-tested r b e t = ap (λ (l : List ℕ). not (is_cycle y l)) (sym (row_is 65536 bodies i)) ∙ ap not (sym e) ∙ t
+  row-tested r e = ap not e ∙ ap (λ (l : List ℕ). not (is_cycle y l)) (row_is 65536 bodies i)
 
 -- ---- the entries of a book
 module _ (b : List ℕ) (i : ℕ) where
@@ -47,10 +47,6 @@ module _ (b : List ℕ) (i : ℕ) where
     start_is : s ≡ body_start (cycles_said b) i
     start_is = start ∙ ap (λ (m : ℕ). body_start m i) count
 
-    pub other_offset : (x ≡ s → ⊥) → bad_offset (contents b) i ≡ true
+    pub offset-tested : not (eqb x s) ≡ bad_offset (contents b) i
     unfolding bad_offset
-    other_offset h = ap not (ne_eqb _ _ (λ e. h (stored ∙ e ∙ sym start_is)))
-
-    pub same-offset : x ≡ s → bad_offset (contents b) i ≡ false
-    unfolding bad_offset
-    same-offset h = ap not (eq-eqb _ _ (sym stored ∙ h ∙ start_is))
+    offset-tested = rw (stored, start_is)

@@ -1,26 +1,24 @@
 -- The first fault of a book by the tests of the code: the bodies are looked at as rows of all that follows the entries. Assumes nothing.
-use mathlib.Core.Path.{◌≡◌, sym, ap, ◌∙◌}
-use mathlib.Core.Bool.{Bool, true, false}
-use mathlib.Core.List.{List}
-use Prim.Native.Nat.{ℕ, ◌+◌, ◌*◌, ◌-◌, ◌/◌, ◌≤◌, ◌<◌}
+use Rattle.std.proofs.Common.{◌≡◌, sym, ap, ◌∙◌, true, false, List, ℕ, ◌+◌, ◌*◌, ◌-◌, ◌/◌, ◌≤◌, ◌<◌, length, take, drop, Option, Result, Ok, Err}
 use native.Mathlib.Omega.{arith}
-use lib.ListN.{length, take, drop, length-drop}
+use lib.ListN.{length-drop}
 use lib.Seq.{take_all}
-use Rattle.base.specs.Ranges.{lowest}
-use Rattle.base.proofs.Ranges.{lowest-same}
+use Rattle.base.specs.declared.refusal.Refusal.TheVariants.{YearOutsideSpan, WrongBookLength, NotACycle, WrongInstant, WrongOffset}
 use Rattle.time_code.specs.Calendar.{in_span}
+use Rattle.book.specs.declared.faults.Fault.{Fault}
 use Rattle.book.specs.Layout.{book_length, cycles_said, year_said}
 use Rattle.book.specs.Faults.{contents, is_sized, bad_body, bad_instant, bad_offset, fault_at, first_fault}
-use Rattle.book.specs.Sought.{Sized, Laid, bad_row}
+use Rattle.book.specs.Sought.{first_such, unless_found, Sized, Laid, bad_row}
 use Rattle.book.proofs.Said.{sized, body-row}
-use Rattle.book.proofs.Ways.{long, other-year, other-size, other-body, other-instant, other_offset, no_fault}
+use Rattle.book.proofs.Searches.{found-same}
+use Rattle.book.proofs.Ways.{before, long, other-year, other-size, by_searches}
 
 -- ---- the whole book
 module _ (b : List ℕ) (l : 4 ≤ length b) where
-  pub refused-13 : in_span (year_said b) ≡ false → fault_at 13 0 ≡ first_fault b
+  pub refused-13 : in_span (year_said b) ≡ false → Err (fault_at YearOutsideSpan 0) ≡ first_fault b
   refused-13 s = other-year (contents b) s ∙ long b l
 
-  pub refused-16 : in_span (year_said b) ≡ true → is_sized (contents b) ≡ false → fault_at 16 0 ≡ first_fault b
+  pub refused-16 : in_span (year_said b) ≡ true → is_sized (contents b) ≡ false → Err (fault_at WrongBookLength 0) ≡ first_fault b
   refused-16 s z = other-size (contents b) s z ∙ long b l
 
 -- ---- its entries
@@ -40,43 +38,38 @@ module _ (b : List ℕ) (laid : Laid b) (n : ℕ) (count : n ≡ cycles_said b) 
   rest-count = let s = has_size_lem in omega (arith, ap length rest-is, length-drop (4 + 12 * n) b)
 
   module _ (y : ℕ) (year : y ≡ year_said b) where
-    same_body : (i : ℕ) → bad_body (contents b) i ≡ bad_row y rest i
+    same_body : (i : ℕ) → bad_row y rest i ≡ bad_body (contents b) i
     unfolding bad_body bad_row
     same_body i = rw (rest-is, body-row b n i count, year)
 
-    low_body : lowest (bad_body (contents b)) 0 (cycles_said b) ≡ lowest (bad_row y rest) 0 (length rest / 65536)
-    low_body =
-        ap (lowest (bad_body (contents b)) 0) (sym count) ∙ lowest-same (bad_body (contents b)) (bad_row y rest) 0 n (λ k a h. same_body k)
-        ∙ ap (lowest (bad_row y rest) 0) (sym rest-count)
+    bodies-same : first_such (bad_row y rest) (length rest / 65536) ≡ first_such (bad_body (contents b)) n
+    bodies-same = ap (first_such (bad_row y rest)) rest-count ∙ found-same (bad_row y rest) n (bad_body (contents b)) (λ k h. same_body k)
 
-    -- the lowest entry with a fault, among as many as there are
-    low : (bad : ℕ → Bool) (r : ℕ) → r ≡ lowest bad 0 n → r ≡ lowest bad 0 (cycles_said b)
-    low bad r e = e ∙ ap (lowest bad 0) count
+    -- the code's three searches, and the faults that they find, one after the other
+    module _ (r : Option ℕ) (e : r ≡ first_such (bad_row y rest) (length rest / 65536)) (found : Result Unit Fault) (fault : found ≡ unless_found NotACycle r) where
+      bodies-are : unless_found NotACycle (first_such (bad_body (contents b)) (cycles_said b)) ≡ found
+      bodies-are = sym (fault ∙ ap (unless_found NotACycle) (e ∙ bodies-same ∙ ap (first_such (bad_body (contents b))) count))
 
-    pub refused-17 : (r : ℕ) → r ≡ lowest (bad_row y rest) 0 (length rest / 65536) → r < n → fault_at 17 r ≡ first_fault b
-    refused-17 r e h =
-        let f = low_body in
-        rw (e ∙ sym f) (other-body (contents b) laid.span laid.sized (omega arith) ∙ long b laid.header)
+      all : before (unless_found NotACycle (first_such (bad_body (contents b)) (cycles_said b)))
+          (before (unless_found WrongInstant (first_such (bad_instant (contents b)) (cycles_said b)))
+          (unless_found WrongOffset (first_such (bad_offset (contents b)) (cycles_said b)))) ≡ first_fault b
+      all = by_searches (contents b) laid.span laid.sized ∙ long b laid.header
 
-    module _ (r : ℕ) (e : r ≡ lowest (bad_row y rest) 0 (length rest / 65536)) (cycles : n ≤ r) where
-      all-cycles : cycles_said b ≤ lowest (bad_body (contents b)) 0 (cycles_said b)
-      all-cycles = let f = low_body in omega arith
+      pub bad_body_first : (f : Fault) → found ≡ Err f → found ≡ first_fault b
+      bad_body_first f is = is ∙ rw (bodies-are, is) at all
 
-      pub refused-18 : (q : ℕ) → q ≡ lowest (bad_instant (contents b)) 0 n → q < n → fault_at 18 q ≡ first_fault b
-      refused-18 q f h =
-          let g = low (bad_instant (contents b)) q f in
-          rw g (other-instant (contents b) laid.span laid.sized all-cycles (omega arith) ∙ long b laid.header)
+      module _ (good : found ≡ Ok tt) (q : Option ℕ) (eq : q ≡ first_such (bad_instant (contents b)) n) (next : Result Unit Fault)
+          (later : next ≡ unless_found WrongInstant q) where
+        instants-are : unless_found WrongInstant (first_such (bad_instant (contents b)) (cycles_said b)) ≡ next
+        instants-are = sym (later ∙ ap (unless_found WrongInstant) (eq ∙ ap (first_such (bad_instant (contents b))) count))
 
-      module _ (q : ℕ) (f : q ≡ lowest (bad_instant (contents b)) 0 n) (rise : n ≤ q) where
-        all-rise : cycles_said b ≤ lowest (bad_instant (contents b)) 0 (cycles_said b)
-        all-rise = let g = low (bad_instant (contents b)) q f in omega arith
+        pub bad_instant_first : (f : Fault) → next ≡ Err f → next ≡ first_fault b
+        bad_instant_first f is = is ∙ rw (bodies-are, good, instants-are, is) at all
 
-        pub refused-19 : (p : ℕ) → p ≡ lowest (bad_offset (contents b)) 0 n → p < n → fault_at 19 p ≡ first_fault b
-        refused-19 p g h =
-            let k = low (bad_offset (contents b)) p g in
-            rw k (other_offset (contents b) laid.span laid.sized all-cycles all-rise (omega arith) ∙ long b laid.header)
+        module _ (rise : next ≡ Ok tt) (p : Option ℕ) (ep : p ≡ first_such (bad_offset (contents b)) n) (last : Result Unit Fault)
+            (latest : last ≡ unless_found WrongOffset p) where
+          offsets-are : unless_found WrongOffset (first_such (bad_offset (contents b)) (cycles_said b)) ≡ last
+          offsets-are = sym (latest ∙ ap (unless_found WrongOffset) (ep ∙ ap (first_such (bad_offset (contents b))) count))
 
-        pub none-refused : (p : ℕ) → p ≡ lowest (bad_offset (contents b)) 0 n → n ≤ p → fault_at 0 0 ≡ first_fault b
-        none-refused p g h =
-            let k = low (bad_offset (contents b)) p g in
-            no_fault (contents b) laid.span laid.sized all-cycles all-rise (omega arith) ∙ long b laid.header
+          pub the_last : last ≡ first_fault b
+          the_last = rw (bodies-are, good, instants-are, rise, offsets-are) at all

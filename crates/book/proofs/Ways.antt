@@ -1,37 +1,61 @@
 -- The list of faults: the first on each way out of it, its number, and what is known where none holds. Assumes nothing.
-use mathlib.Core.Path.{◌≡◌, refl, ap, ◌∙◌}
-use mathlib.Core.Bool.{Bool, true, false, cond, not}
-use mathlib.Core.List.{List, [], ◌∷◌}
-use Prim.Native.Nat.{ℕ, ◌≤◌, ◌<◌}
+use Rattle.std.proofs.Common.{◌≡◌, refl, sym, ap, ◌∙◌, Bool, true, false, cond, not, List, [], ◌∷◌, ℕ, ◌≤◌, ◌<◌, Option, Some, None, Result, Ok, Err}
 use native.Mathlib.Omega.{arith}
 use lib.Dec.{ltb}
 use lib.ListN.{length}
 use borrow.Author.Tests.{lt-ltb, le-ltb, ltb-false}
 use Rattle.base.specs.Ranges.{lowest}
-use Rattle.base.specs.Refusal.{refusal}
+use Rattle.base.specs.declared.refusal.Refusal.{Refusal}
+use Rattle.base.specs.declared.refusal.Refusal.TheVariants.{YearOutsideSpan, WrongBookLength, NotACycle, WrongInstant, WrongOffset}
+use Rattle.base.specs.Refusals.{number as number_in_papers, number_of, refusal, permitted}
+use Rattle.base.proofs.Lines.{numbered}
 use Rattle.base.proofs.Ranges.{none-holds, holds-none}
 use Rattle.time_code.specs.Calendar.{in_span}
-use Rattle.book.specs.declared.faults.FirstFault.{FirstFault}
-use Rattle.book.specs.Faults.{Contents, contents, is_sized, bad_body, bad_instant, bad_offset, Fault, faults, book_faults, lines_of, view_refusal}
-use Rattle.book.specs.Faults.{fault_at, first_of, first_fault}
+use Rattle.book.specs.declared.faults.Fault.{Fault}
+use Rattle.book.specs.Faults.{Contents, contents, is_sized, bad_body, bad_instant, bad_offset, FaultLine, faults, book_faults, lines_of}
+use Rattle.book.specs.Faults.{accepted, view_refusal, among, entry_faults, fault_at, first_of, first_fault, fault_number}
+use Rattle.book.specs.Sought.{first_such, unless_found}
 
--- the first fault's number is that of the table
-pub first-number : (fs : List Fault) → (first_of fs).number ≡ refusal (lines_of fs)
+-- a fault without its entry
+abbrev pub without_entry : Result Unit Fault → Result Unit Refusal
+without_entry (Ok u) = Ok tt
+without_entry (Err f) = Err f.refusal
+
+-- the first fault's number, and the fault without its entry, are the table's
+pub first-number : (fs : List FaultLine) → fault_number (first_of fs) ≡ refusal (lines_of fs)
 first-number [] = refl
 first-number (f ∷ fs) = go f.line.holds (first-number fs)
   where
-    go : (b : Bool) → (first_of fs).number ≡ refusal (lines_of fs)
-        → (cond b (fault_at f.line.number f.entry) (first_of fs)).number ≡ cond b f.line.number (refusal (lines_of fs))
+    go : (b : Bool) → fault_number (first_of fs) ≡ refusal (lines_of fs)
+        → fault_number (cond b (Err (fault_at f.line.reason f.entry)) (first_of fs)) ≡ cond b (number_in_papers f.line.reason) (refusal (lines_of fs))
+    go true e = refl
+    go false e = e
+
+pub first-answer : (fs : List FaultLine) → without_entry (first_of fs) ≡ permitted (lines_of fs)
+first-answer [] = refl
+first-answer (f ∷ fs) = go f.line.holds (first-answer fs)
+  where
+    go : (b : Bool) → without_entry (first_of fs) ≡ permitted (lines_of fs)
+        → without_entry (cond b (Err (fault_at f.line.reason f.entry)) (first_of fs)) ≡ cond b (Err f.line.reason) (permitted (lines_of fs))
     go true e = refl
     go false e = e
 
 -- ---- in bytes
 module _ (b : List ℕ) where
-  pub view_number : (first_fault b).number ≡ view_refusal b
+  pub view_number : fault_number (first_fault b) ≡ view_refusal b
   unfolding first_fault view_refusal
   view_number = first-number (book_faults b)
 
-  pub short : length b < 4 → fault_at 16 0 ≡ first_fault b
+  pub view_answer : without_entry (first_fault b) ≡ accepted b
+  unfolding first_fault accepted
+  view_answer = first-answer (book_faults b)
+
+  -- a book that is accepted has no number of a refusal
+  pub accepted-none : accepted b ≡ Ok tt → view_refusal b ≡ 0
+  unfolding accepted view_refusal
+  accepted-none e = sym (numbered (lines_of (book_faults b)) tt) ∙ ap number_of e
+
+  pub short : length b < 4 → Err (fault_at WrongBookLength 0) ≡ first_fault b
   unfolding first_fault
   short h = rw (lt-ltb (length b) 4 h)
 
@@ -43,15 +67,40 @@ module _ (b : List ℕ) where
   unfolding view_refusal
   long_number h = rw (le-ltb (length b) 4 h)
 
+-- ---- one after the other: the first is the answer's if it is a fault
+abbrev pub before : Result Unit Fault → Result Unit Fault → Result Unit Fault
+before (Ok u) r = r
+before (Err f) r = Err f
+
+module _ (n : ℕ) (reason : Refusal) (bad : ℕ → Bool) where
+  pub first-among : (fs : List FaultLine) → first_of (among n reason bad ∷ fs) ≡ before (unless_found reason (first_such bad n)) (first_of fs)
+  first-among fs = go (ltb (lowest bad 0 n) n)
+    where
+      go : (t : Bool) → cond t (Err (fault_at reason (lowest bad 0 n))) (first_of fs)
+          ≡ before (unless_found reason (cond t (Some (lowest bad 0 n)) None)) (first_of fs)
+      go true = refl
+      go false = refl
+
+  pub last-among : first_of (among n reason bad ∷ []) ≡ unless_found reason (first_such bad n)
+  last-among = go (ltb (lowest bad 0 n) n)
+    where
+      go : (t : Bool) → cond t (Err (fault_at reason (lowest bad 0 n))) (Ok tt) ≡ unless_found reason (cond t (Some (lowest bad 0 n)) None)
+      go true = refl
+      go false = refl
+
 module _ (c : Contents) where
   abbrev pub number : ℕ
   number = refusal (lines_of (faults c))
 
-  abbrev pub first : FirstFault
-  first = first_of (faults c)
+  -- what is answered where nothing but the contents is looked at
+  abbrev pub answer : Result Unit Refusal
+  answer = permitted (lines_of (faults c))
 
-  pub numbered : {k i : ℕ} → fault_at k i ≡ first → k ≡ number
-  numbered e = ap (λ (f : FirstFault). f.number) e ∙ first-number (faults c)
+  pub permitted-none : Ok tt ≡ answer → number ≡ 0
+  permitted-none e = sym (ap number_of e ∙ numbered (lines_of (faults c)) tt)
+
+  abbrev pub first : Result Unit Fault
+  first = first_of (faults c)
 
   -- the lowest entry with such a fault
   abbrev body_fault : ℕ
@@ -64,31 +113,25 @@ module _ (c : Contents) where
   offset_fault = lowest (bad_offset c) 0 c.count
 
   -- ---- the ways out
-  pub other-year : in_span c.year ≡ false → fault_at 13 0 ≡ first
+  pub other-year : in_span c.year ≡ false → Err (fault_at YearOutsideSpan 0) ≡ first
   other-year s = rw s
 
   module _ (s : in_span c.year ≡ true) where
-    pub other-size : is_sized c ≡ false → fault_at 16 0 ≡ first
+    pub other-size : is_sized c ≡ false → Err (fault_at WrongBookLength 0) ≡ first
     other-size z = rw (s, z)
 
-    module _ (z : is_sized c ≡ true) where
-      pub other-body : body_fault < c.count → fault_at 17 body_fault ≡ first
-      other-body l = rw (s, z, lt-ltb body_fault c.count l)
-
-      module _ (bodies : c.count ≤ body_fault) where
-        pub other-instant : instant_fault < c.count → fault_at 18 instant_fault ≡ first
-        other-instant l = rw (s, z, le-ltb body_fault c.count bodies, lt-ltb instant_fault c.count l)
-
-        module _ (instants : c.count ≤ instant_fault) where
-          pub other_offset : offset_fault < c.count → fault_at 19 offset_fault ≡ first
-          other_offset l =
-              rw (s, z, le-ltb body_fault c.count bodies, le-ltb instant_fault c.count instants)
-              (rw (lt-ltb offset_fault c.count l))
-
-          pub no_fault : c.count ≤ offset_fault → fault_at 0 0 ≡ first
-          no_fault l =
-              rw (s, z, le-ltb body_fault c.count bodies, le-ltb instant_fault c.count instants)
-              (rw (le-ltb offset_fault c.count l))
+    -- the three searches
+    pub by_searches : is_sized c ≡ true
+        → before (unless_found NotACycle (first_such (bad_body c) c.count))
+          (before (unless_found WrongInstant (first_such (bad_instant c) c.count)) (unless_found WrongOffset (first_such (bad_offset c) c.count)))
+        ≡ first
+    by_searches z =
+        let bodies = unless_found NotACycle (first_such (bad_body c) c.count) in
+        let instants = unless_found WrongInstant (first_such (bad_instant c) c.count) in
+        let last = last-among c.count WrongOffset (bad_offset c) in
+        let second = first-among c.count WrongInstant (bad_instant c) (among c.count WrongOffset (bad_offset c) ∷ []) in
+        let all = first-among c.count NotACycle (bad_body c) (among c.count WrongInstant (bad_instant c) ∷ among c.count WrongOffset (bad_offset c) ∷ []) in
+        rw (s, z) (sym (all ∙ ap (before bodies) (second ∙ ap (before instants) last)))
 
   -- ---- no fault, entry by entry
   pub record Sound : Type 0 where
@@ -100,9 +143,9 @@ module _ (c : Contents) where
 
   pub sound_none : Sound → 0 ≡ number
   sound_none s =
-      numbered
-      (no_fault s.span s.sized (none-holds (bad_body c) c.count s.bodies) (none-holds (bad_instant c) c.count s.instants)
-      (none-holds (bad_offset c) c.count s.offsets))
+      rw (s.span, s.sized, le-ltb body_fault c.count (none-holds (bad_body c) c.count s.bodies))
+      (rw (le-ltb instant_fault c.count (none-holds (bad_instant c) c.count s.instants))
+      (rw (le-ltb offset_fault c.count (none-holds (bad_offset c) c.count s.offsets))))
 
   pub none-sound : number ≡ 0 → Sound
   none-sound =

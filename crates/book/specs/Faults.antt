@@ -1,12 +1,14 @@
 -- The faults of a book, in the order in which they are tested, each with the lowest entry that has it (02, requests 7 and 8). It is one list,
 -- over what a book says, be it in bytes or still a year and a list of cycles: what is written, what a view holds and what a check answers all
 -- cite it. Definitions only.
-use Rattle.std.specs.Prelude.{Bool, true, cond, not, ◌&&◌, ◌||◌, List, [], ◌∷◌, map, ℕ, ◌-◌, eqb, leb, ltb, length, get_or}
+use Rattle.std.specs.Prelude.{Bool, true, cond, not, ◌&&◌, ◌||◌, List, [], ◌∷◌, map, ℕ, ◌-◌, eqb, leb, ltb, length, get_or, Result, Ok, Err}
+use Rattle.base.specs.declared.refusal.Refusal.{Refusal}
+use Rattle.base.specs.declared.refusal.Refusal.TheVariants.{YearOutsideSpan, WrongBookLength, NotACycle, WrongInstant, WrongOffset}
 use Rattle.base.specs.Ranges.{lowest}
-use Rattle.base.specs.Refusal.{Line, ◌when◌, refusal}
+use Rattle.base.specs.Refusals.{number, Line, ◌when◌, refusal, permitted}
 use Rattle.time_code.specs.Calendar.{in_span}
 use Rattle.cycle.specs.Cycle.{instant_of, is_cycle}
-use Rattle.book.specs.declared.faults.FirstFault.{FirstFault}
+use Rattle.book.specs.declared.faults.Fault.{Fault}
 use Rattle.book.specs.Layout.{header_length, most_cycles, body_start, book_length, cycles_said, year_said, instant_at, offset_at, body_at}
 
 -- what a book says: the year, how many cycles, whether it is as long as a book of so many, and of each entry the instant, the offset, the body
@@ -63,45 +65,58 @@ module _ (c : Contents) where
 
 -- ---- the list
 
--- a fault: the line of the refusal table, and the entry that has it
-pub record Fault : Type 0 where
+-- a fault that a book may have: the line of the refusal table, and the entry that has it
+pub record FaultLine : Type 0 where
   pub line : Line
   pub entry : ℕ
 
 -- a fault of the whole book, and of the lowest of n entries
-abbrev pub whole : ℕ → Bool → Fault
-whole number holds = record { line = number when holds; entry = 0 }
+abbrev pub whole : Refusal → Bool → FaultLine
+whole reason holds = record { line = reason when holds; entry = 0 }
 
-abbrev pub among : ℕ → ℕ → (ℕ → Bool) → Fault
-among n number bad = record { line = number when ltb (lowest bad 0 n) n; entry = lowest bad 0 n }
+abbrev pub among : ℕ → Refusal → (ℕ → Bool) → FaultLine
+among n reason bad = record { line = reason when ltb (lowest bad 0 n) n; entry = lowest bad 0 n }
 
 -- those of the entries: every body is looked at before any instant, and every instant before any offset
-abbrev pub entry_faults : Contents → List Fault
-entry_faults c = among c.count 17 (bad_body c) ∷ among c.count 18 (bad_instant c) ∷ among c.count 19 (bad_offset c) ∷ []
+abbrev pub entry_faults : Contents → List FaultLine
+entry_faults c =
+    among c.count NotACycle (bad_body c) ∷ among c.count WrongInstant (bad_instant c) ∷ among c.count WrongOffset (bad_offset c) ∷ []
 
-abbrev pub faults : Contents → List Fault
-faults c = whole 13 (not (in_span c.year)) ∷ whole 16 (not (is_sized c)) ∷ entry_faults c
+abbrev pub faults : Contents → List FaultLine
+faults c = whole YearOutsideSpan (not (in_span c.year)) ∷ whole WrongBookLength (not (is_sized c)) ∷ entry_faults c
 
 -- in bytes, of which fewer than 4 say nothing
-abbrev pub book_faults : List ℕ → List Fault
-book_faults b = whole 16 (ltb (length b) header_length) ∷ faults (contents b)
+abbrev pub book_faults : List ℕ → List FaultLine
+book_faults b = whole WrongBookLength (ltb (length b) header_length) ∷ faults (contents b)
 
--- the numbers alone
-abbrev pub lines_of : List Fault → List Line
+-- the lines alone
+abbrev pub lines_of : List FaultLine → List Line
 lines_of fs = map (λ f. f.line) fs
 
--- 0, or why a view holds nothing
+-- why a view holds nothing, if it does; and its number, 0 for none
+unfoldable pub accepted : List ℕ → Result Unit Refusal
+accepted b = permitted (lines_of (book_faults b))
+
 unfoldable pub view_refusal : List ℕ → ℕ
 view_refusal b = refusal (lines_of (book_faults b))
 
--- the first that holds, with its entry (02, request 8); 0 and 0 where none does. 01's rule that a refusal holds 0 beside its number gives way
--- here: the entry need not be 0
-abbrev pub fault_at : ℕ → ℕ → FirstFault
-fault_at number entry = record { number = number; entry = entry }
+-- the first that holds, with its entry (02, request 8), if one does
+abbrev pub fault_at : Refusal → ℕ → Fault
+fault_at reason entry = record { refusal = reason; entry = entry }
 
-abbrev pub first_of : List Fault → FirstFault
-first_of [] = fault_at 0 0
-first_of (f ∷ fs) = cond f.line.holds (fault_at f.line.number f.entry) (first_of fs)
+abbrev pub first_of : List FaultLine → Result Unit Fault
+first_of [] = Ok tt
+first_of (f ∷ fs) = cond f.line.holds (Err (fault_at f.line.reason f.entry)) (first_of fs)
 
-unfoldable pub first_fault : List ℕ → FirstFault
+unfoldable pub first_fault : List ℕ → Result Unit Fault
 first_fault b = first_of (book_faults b)
+
+-- its number and its entry; 0 and 0 where there is none. 01's rule that a refusal holds 0 beside its number gives way here: the entry need not
+-- be 0
+abbrev pub fault_number : Result Unit Fault → ℕ
+fault_number (Ok u) = 0
+fault_number (Err f) = number f.refusal
+
+abbrev pub fault_entry : Result Unit Fault → ℕ
+fault_entry (Ok u) = 0
+fault_entry (Err f) = f.entry

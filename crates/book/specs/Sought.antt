@@ -1,10 +1,24 @@
 -- What the code looks at: bodies end to end as rows, and books of the right length. Definitions only.
-use Rattle.std.specs.Prelude.{◌≡◌, Bool, true, not, List, ℕ, ◌≤◌, length}
+use Rattle.std.specs.Prelude.{◌≡◌, Bool, true, cond, not, List, ℕ, ◌≤◌, ltb, length, Option, Some, None, Result, Ok, Err}
+use Rattle.base.specs.declared.refusal.Refusal.{Refusal}
+use Rattle.base.specs.Ranges.{lowest}
 use Rattle.base.specs.Rows.{row}
 use Rattle.time_code.specs.Calendar.{in_span}
 use Rattle.cycle.specs.Cycle.{cycle_length, is_cycle}
+use Rattle.book.specs.declared.faults.Fault.{Fault}
 use Rattle.book.specs.Layout.{header_length, most_cycles, book_length, cycles_said, year_said}
-use Rattle.book.specs.Faults.{contents, is_sized}
+use Rattle.book.specs.Faults.{contents, is_sized, fault_at}
+
+-- ---- searches
+
+-- the lowest of the first n numbers of which p holds, if there is one
+abbrev pub first_such : (ℕ → Bool) → ℕ → Option ℕ
+first_such p n = cond (ltb (lowest p 0 n) n) (Some (lowest p 0 n)) None
+
+-- the fault of the entry that was found, if one was
+abbrev pub unless_found : Refusal → Option ℕ → Result Unit Fault
+unless_found reason None = Ok tt
+unless_found reason (Some i) = Err (fault_at reason i)
 
 -- ---- bodies end to end
 

@@ -1,52 +1,48 @@
 // The faults of a book, in the order of paper 02: 16 for fewer than 4 bytes, 13, 16, 17, 18, 19.
 ghost use Rattle.std.specs.Prelude.{◌≡◌, ◌/◌, ◌≤◌, ◌<◌, length};
-ghost use Rattle.base.specs.Ranges.{lowest};
-ghost use Rattle.book.specs.Layout.{body_start, cycles_said, year_said};
-ghost use Rattle.book.specs.Faults.{contents, is_sized, bad_instant, bad_offset, view_refusal, fault_at, first_fault};
-ghost use Rattle.book.specs.Sought.{bad_row, Laid, Sized};
+ghost use Rattle.base.specs.Refusals.{number_of};
+ghost use Rattle.book.specs.Layout.{cycles_said, year_said};
+ghost use Rattle.book.specs.Faults.{contents, is_sized, bad_instant, bad_offset, accepted, view_refusal, first_fault};
+ghost use Rattle.book.specs.Sought.{bad_row, first_such, unless_found, Laid, Sized};
 
 use crate::fields;
-use crate::layout::{ENTRY, ENTRY_AND_BODY, HEADER, MOST_CYCLES};
-use base::refusal;
+use crate::layout::{ENTRY, ENTRY_AND_BODY, HEADER, MOST_CYCLES, body_start};
+use base::refusal::Refusal;
 use cycle::CYCLE;
 
-// The first fault of a book, by its number, and the lowest entry that has it: 0 for a fault of the whole book. Both are 0 where there is none.
-#[derive(Clone, Copy)]
-pub struct FirstFault {
-    pub number: u8,
+// A fault of a book: why it is refused, and the lowest entry that has the fault; 0 for a fault of
+// the whole book.
+#[derive(Clone, Copy, Debug, PartialEq, Eq)]
+pub struct Fault {
+    pub refusal: Refusal,
     pub entry: u64,
 }
 
-fn fault_at(number: u8, entry: usize) -> FirstFault
-    ensures { result ≡ fault_at number entry }
+// Whether a book is accepted, or why not: its first fault without the entry.
+pub fn accept(bytes: &[u8]) -> Result<(), Refusal>
+    ensures answer { result ≡ accepted bytes.now }
+    ensures number { number_of result ≡ view_refusal bytes.now }
 {
-    FirstFault {
-        number: number,
-        entry: entry as u64,
+    match first_fault(bytes) {
+        Ok(()) => Ok(()),
+        Err(fault) => Err(fault.refusal),
     }
 }
 
-// 0, or why a view of the bytes holds nothing: the number of the first fault.
-pub fn view_refusal(bytes: &[u8]) -> u8
-    ensures { result ≡ view_refusal bytes.now }
-{
-    let first = first_fault(bytes);
-    first.number
-}
-
-// The first fault. 13: the year. 16: the length, or more than 255 cycles; fewer than 4 bytes before 13. 17: a body is not as described. 18:
-// an instant is not its body's, or does not rise. 19: an offset.
-pub fn first_fault(bytes: &[u8]) -> FirstFault
+// The first fault, if there is one. 13: the year. 16: the length, or more than 255 cycles; fewer
+// than 4 bytes before 13. 17: a body is not as described. 18: an instant is not its body's, or does
+// not rise. 19: an offset.
+pub fn first_fault(bytes: &[u8]) -> Result<(), Fault>
     ensures { result ≡ first_fault bytes.now }
 {
     if bytes.len() < HEADER {
-        return fault_at(refusal::WRONG_BOOK_LENGTH, 0);
+        return of_the_whole(Refusal::WrongBookLength);
     }
     if !time_code::year::in_span(fields::year_said(bytes)) {
-        return fault_at(refusal::YEAR_OUTSIDE_SPAN, 0);
+        return of_the_whole(Refusal::YearOutsideSpan);
     }
     if !is_sized(bytes) {
-        return fault_at(refusal::WRONG_BOOK_LENGTH, 0);
+        return of_the_whole(Refusal::WrongBookLength);
     }
     first_entry_fault(bytes)
 }
@@ -61,61 +57,44 @@ pub(crate) fn is_sized(bytes: &[u8]) -> bool
 }
 
 // 17, 18 or 19, of a book that has its length and a year of the span.
-fn first_entry_fault(bytes: &[u8]) -> FirstFault
+fn first_entry_fault(bytes: &[u8]) -> Result<(), Fault>
     requires { Laid bytes.now }
     ensures { result ≡ first_fault bytes.now }
 {
     let n = fields::cycles_said(bytes);
     let year = fields::year_said(bytes);
     let start = HEADER + ENTRY * n;
-    let body = first_bad_body(year, &bytes[start..]);
-    if body < n {
-        return fault_at(refusal::NOT_A_CYCLE, body);
-    }
-    let instant = first_bad_instant(bytes, year, n);
-    if instant < n {
-        return fault_at(refusal::WRONG_INSTANT, instant);
-    }
-    let offset = first_bad_offset(bytes, n);
-    if offset < n {
-        return fault_at(refusal::WRONG_OFFSET, offset);
-    }
-    fault_at(0, 0)
+    unless_found(Refusal::NotACycle, first_bad_body(year, &bytes[start..]))?;
+    unless_found(Refusal::WrongInstant, first_bad_instant(bytes, year, n))?;
+    unless_found(Refusal::WrongOffset, first_bad_offset(bytes, n))
 }
 
-// The lowest of the whole bodies end to end that is no cycle of the year; as many as they are where each is.
-pub fn first_bad_body(year: u64, bodies: &[u8]) -> usize
-    ensures { result ≡ lowest (bad_row year bodies.now) 0 (length bodies.now / 65536) }
+// The lowest of the whole bodies end to end that is no cycle of the year.
+pub fn first_bad_body(year: u64, bodies: &[u8]) -> Option<usize>
+    ensures { result ≡ first_such (bad_row year bodies.now) (length bodies.now / 65536) }
 {
     let n = bodies.len() / CYCLE;
-    let mut i: usize = 0;
-    while i < n {
-        let start = CYCLE * i;
-        let end = start + CYCLE;
-        if !cycle::is_cycle(year, &bodies[start..end]) {
-            return i;
-        }
-        i += 1;
-    }
-    n
+    (0..n).find(|&i| is_bad_body(year, bodies, i))
 }
 
-// The lowest entry whose instant is not its body's, or does not rise; n where there is none.
-fn first_bad_instant(bytes: &[u8], year: u64, n: usize) -> usize
-    requires { Sized bytes.now n × (year ≡ year_said bytes.now) }
-    ensures { result ≡ lowest (bad_instant (contents bytes.now)) 0 n }
+fn is_bad_body(year: u64, bodies: &[u8], i: usize) -> bool
+    requires { i < length bodies.now / 65536 }
+    ensures { result ≡ bad_row year bodies.now i }
 {
-    let mut i: usize = 0;
-    while i < n {
-        if bad_instant(bytes, year, n, i) {
-            return i;
-        }
-        i += 1;
-    }
-    n
+    let start = CYCLE * i;
+    let end = start + CYCLE;
+    !cycle::is_cycle(year, &bodies[start..end])
 }
 
-fn bad_instant(bytes: &[u8], year: u64, n: usize, i: usize) -> bool
+// The lowest entry whose instant is not its body's, or does not rise.
+fn first_bad_instant(bytes: &[u8], year: u64, n: usize) -> Option<usize>
+    requires { Sized bytes.now n × (year ≡ year_said bytes.now) }
+    ensures { result ≡ first_such (bad_instant (contents bytes.now)) n }
+{
+    (0..n).find(|&i| is_bad_instant(bytes, year, n, i))
+}
+
+fn is_bad_instant(bytes: &[u8], year: u64, n: usize, i: usize) -> bool
     requires { Sized bytes.now n × (year ≡ year_said bytes.now) × (i < n) }
     ensures { result ≡ bad_instant (contents bytes.now) i }
 {
@@ -131,25 +110,37 @@ fn bad_instant(bytes: &[u8], year: u64, n: usize, i: usize) -> bool
     false
 }
 
-// The lowest entry whose offset is not where its body starts; n where there is none.
-fn first_bad_offset(bytes: &[u8], n: usize) -> usize
+// The lowest entry whose offset is not where its body starts.
+fn first_bad_offset(bytes: &[u8], n: usize) -> Option<usize>
     requires { Sized bytes.now n }
-    ensures { result ≡ lowest (bad_offset (contents bytes.now)) 0 n }
+    ensures { result ≡ first_such (bad_offset (contents bytes.now)) n }
 {
-    let mut i: usize = 0;
-    while i < n {
-        if fields::offset_at(bytes, i) != body_start(n, i) {
-            return i;
-        }
-        i += 1;
-    }
-    n
+    (0..n).find(|&i| is_bad_offset(bytes, n, i))
 }
 
-// Where body i of n starts.
-fn body_start(n: usize, i: usize) -> u64
-    requires { (n ≤ 255) × (i ≤ n) }
-    ensures { result ≡ body_start n i }
+fn is_bad_offset(bytes: &[u8], n: usize, i: usize) -> bool
+    requires { Sized bytes.now n × (i < n) }
+    ensures { result ≡ bad_offset (contents bytes.now) i }
 {
-    (HEADER + ENTRY * n + CYCLE * i) as u64
+    fields::offset_at(bytes, i) != body_start(n as u8, i as u8) as u64
+}
+
+// A fault of the whole book.
+fn of_the_whole(refusal: Refusal) -> Result<(), Fault>
+    ensures { result ≡ unless_found refusal (Some 0) }
+{
+    unless_found(refusal, Some(0))
+}
+
+// The fault that the lowest entry with it has, if there is such an entry.
+fn unless_found(refusal: Refusal, entry: Option<usize>) -> Result<(), Fault>
+    ensures { result ≡ unless_found refusal entry }
+{
+    match entry {
+        None => Ok(()),
+        Some(i) => Err(Fault {
+            refusal: refusal,
+            entry: i as u64,
+        }),
+    }
 }

@@ -1,39 +1,50 @@
 // What the header of a book says. The length and the number of cycles are tested, and nothing else.
 ghost use Rattle.std.specs.Prelude.{◌≡◌};
-ghost use Rattle.book.specs.Header.{has_size, header_refusal, count_of, year_of};
+ghost use Rattle.base.specs.Refusals.{Answers};
+ghost use Rattle.book.specs.Header.{has_size, header_lines, header_of, count_of, year_of};
 
 use crate::layout::HEADER;
 use crate::{faults, fields};
-use base::refusal;
+use base::refusal::Refusal;
 
-// 0, or why a book says neither its number of cycles nor its year. 16: the length, or more than 255 cycles.
-pub fn header_refusal(bytes: &[u8]) -> u8
-    ensures { result ≡ header_refusal bytes.now }
+// The number of cycles, and the year.
+#[derive(Clone, Copy, Debug, PartialEq, Eq)]
+pub struct Header {
+    pub cycles: u64,
+    pub year: u64,
+}
+
+// What a book says. Refused 16: the length, or more than 255 cycles.
+pub fn read_header(bytes: &[u8]) -> Result<Header, Refusal>
+    ensures { Answers (header_lines bytes.now) (header_of bytes.now) result }
 {
-    if has_size(bytes) {
-        return 0;
+    if !has_size(bytes) {
+        return Err(Refusal::WrongBookLength);
     }
-    refusal::WRONG_BOOK_LENGTH
+    Ok(Header {
+        cycles: fields::cycles_said(bytes) as u64,
+        year: fields::year_said(bytes),
+    })
 }
 
 // The number of cycles; 0 where it is refused.
 pub fn cycles(bytes: &[u8]) -> u64
     ensures { result ≡ count_of bytes.now }
 {
-    if has_size(bytes) {
-        return fields::cycles_said(bytes) as u64;
+    match read_header(bytes) {
+        Ok(says) => says.cycles,
+        Err(_) => 0,
     }
-    0
 }
 
 // The year; 0 where it is refused.
 pub fn year(bytes: &[u8]) -> u64
     ensures { result ≡ year_of bytes.now }
 {
-    if has_size(bytes) {
-        return fields::year_said(bytes);
+    match read_header(bytes) {
+        Ok(says) => says.year,
+        Err(_) => 0,
     }
-    0
 }
 
 // Whether the length is that of the number of cycles, and these are at most 255.

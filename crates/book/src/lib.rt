@@ -8,6 +8,6 @@ mod fields;
 mod header;
 mod layout;
 
-pub use faults::{FirstFault, first_bad_body, first_fault, view_refusal};
-pub use header::{cycles, header_refusal, year};
-pub use layout::{ENTRY, ENTRY_AND_BODY, HEADER, MOST_CYCLES};
+pub use faults::{Fault, accept, first_bad_body, first_fault};
+pub use header::{Header, cycles, read_header, year};
+pub use layout::{ENTRY, ENTRY_AND_BODY, HEADER, MOST_CYCLES, body_start};

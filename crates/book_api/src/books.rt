@@ -1,24 +1,26 @@
 // A book of cycles. The answer is the number of the refusal, 0 for none; a refusal writes nothing. A part of a book is a reference, which cannot
 // cross: where it lies crosses.
 ghost use Rattle.std.specs.Prelude.{◌≡◌};
+ghost use Rattle.base.specs.Refusals.{number_of};
 ghost use Rattle.book.specs.Faults.{view_refusal};
 ghost use Rattle.book_writer.specs.Promise.{WritePromise};
-ghost use Rattle.book_api.specs.Books.{CheckCrossed, HeaderCrossed, EntryCrossed, BodyCrossed};
+ghost use Rattle.book_api.specs.Books.{CheckCrossed, HeaderCrossed, EntryCrossed, BodyCrossed, place_or};
 
-use book_check::Verdict;
+use base::refusal::{self, Refusal};
+use book_parts::Place;
 
 // Writes the book of a year and of the bodies of its cycles, end to end.
 pub fn pcd_book_write(year: u64, bodies: &[u8], out: &mut [u8]) -> u8
     ensures { WritePromise year bodies.now out.old out.new result }
 {
-    book_writer::write(year, bodies, out)
+    refusal::code(book_writer::write(year, bodies, out))
 }
 
 // Why a view of the bytes holds nothing, 0 where it holds the book.
 pub fn pcd_book_view_refusal(book: &[u8]) -> u8
     ensures { result ≡ view_refusal book.now }
 {
-    book::view_refusal(book)
+    refusal::code(book::accept(book))
 }
 
 // Checks a book: the number of its first fault, 0 where it is accepted. `out` gets the lowest entry that has the fault, 0 where there is none: that is
@@ -27,13 +29,13 @@ pub fn pcd_book_check(book: &[u8], out: &mut u64) -> u8
     ensures { CheckCrossed book.now result out.new }
 {
     match book_check::check(book) {
-        Verdict::Accepted => {
+        Ok(()) => {
             *out = 0;
-            return 0;
+            0
         }
-        Verdict::Faulty { number, entry } => {
-            *out = entry;
-            return number;
+        Err(fault) => {
+            *out = fault.entry;
+            fault.refusal.number()
         }
     }
 }
@@ -42,36 +44,38 @@ pub fn pcd_book_check(book: &[u8], out: &mut u64) -> u8
 pub fn pcd_book_header(book: &[u8], out: &mut [u64; 2]) -> u8
     ensures { HeaderCrossed book.now result out.old out.new }
 {
-    let number = book::header_refusal(book);
-    if number != 0 {
-        return number;
+    match book::read_header(book) {
+        Ok(header) => {
+            *out = [header.cycles, header.year];
+            0
+        }
+        Err(refusal) => refusal.number(),
     }
-    *out = [book::cycles(book), book::year(book)];
-    0
 }
 
 // `out` gets the place of entry i in the book, then its length.
 pub fn pcd_book_entry(book: &[u8], i: u64, out: &mut [u64; 2]) -> u8
     ensures { EntryCrossed book.now i result out.old out.new }
 {
-    let number = book_parts::part_refusal(book, i);
-    if number != 0 {
-        return number;
-    }
-    let place = book_parts::entry_place(book, i);
-    *out = [place.start as u64, place.length as u64];
-    0
+    pass_place(book_parts::entry_place(book, i), out)
 }
 
 // `out` gets the place of body i in the book, then its length.
 pub fn pcd_book_body(book: &[u8], i: u64, out: &mut [u64; 2]) -> u8
     ensures { BodyCrossed book.now i result out.old out.new }
 {
-    let number = book_parts::part_refusal(book, i);
-    if number != 0 {
-        return number;
+    pass_place(book_parts::body_place(book, i), out)
+}
+
+fn pass_place(place: Result<Place, Refusal>, out: &mut [u64; 2]) -> u8
+    ensures code { result ≡ number_of place }
+    ensures out { out.new ≡ place_or out.old place }
+{
+    match place {
+        Ok(p) => {
+            *out = [p.start as u64, p.length as u64];
+            0
+        }
+        Err(refusal) => refusal.number(),
     }
-    let place = book_parts::body_place(book, i);
-    *out = [place.start as u64, place.length as u64];
-    0
 }

@@ -1,20 +1,12 @@
 // Comparing two books. The answer is the number of the refusal, 0 for none; a refusal writes nothing.
 ghost use Rattle.book_api.specs.Comparing.{CompareCrossed};
 
-use book_compare::Compared;
+use base::refusal;
 
 // Puts how two books differ into a table of 510 lines of three numbers; `lines` gets how many there are.
 pub fn pcd_book_compare(first: &[u8], second: &[u8], table: &mut [u64], lines: &mut u64) -> u8
     ensures { CompareCrossed first.now second.now result table.old table.new
         lines.old lines.new }
 {
-    match book_compare::compare(first, second, table) {
-        Compared::Lines(n) => {
-            *lines = n;
-            return 0;
-        }
-        Compared::Refused(number) => {
-            return number;
-        }
-    }
+    refusal::pass(book_compare::compare(first, second, table), lines)
 }

@@ -13,11 +13,12 @@ use lib.Seq.{drop-drop, length-take-le, take-add, drop-append-le, take-append-le
 use borrow.Author.Tests.{not-false, le-leb, eq-eqb, eqb-true}
 use Rattle.base.specs.Numbers.{big_endian, bytes_of}
 use Rattle.base.specs.Ranges.{tabulate, joined}
-use Rattle.base.specs.Refusal.{refusal}
+use Rattle.base.specs.declared.refusal.Refusal.TheVariants.{WrongLength}
+use Rattle.base.specs.Refusals.{refusal}
 use Rattle.base.specs.Rows.{row, rows}
 use Rattle.base.proofs.Numbers.{Bytes, written_back, take-bytes, drop-bytes}
 use Rattle.base.proofs.Ranges.{tabulate-length, tabulate-at}
-use Rattle.base.proofs.Refusals.{Positive, given_is}
+use Rattle.base.proofs.Lines.{given_is}
 use Rattle.base.proofs.Rows.{of_rows, row-after}
 use Rattle.cycle.specs.Cycle.{instant_of}
 use Rattle.book.specs.Layout.{body_start, book_length, entry, book, bytes_at, cycles_said, year_said, entry_start, instant_at, offset_at, body_at, cycles_of}
@@ -200,12 +201,8 @@ module _ (b : List ℕ) (none : view_refusal b ≡ 0) where
           bodies = bodies;
           out = b;
           unrefused = none-holds;
-          is = is_book ∙ sym (ap (book y) cycles_in) ∙ sym (given_is b (book y (bodies_in bodies)) (write_lines y bodies b) positive none-holds);
+          is = is_book ∙ sym (ap (book y) cycles_in) ∙ sym (given_is b (book y (bodies_in bodies)) (write_lines y bodies b) none-holds);
         }
-      where
-        positive : Positive (write_lines y bodies b)
-        positive =
-            (λ z. omega arith, (λ z. omega arith, (λ z. omega arith, (λ z. omega arith, (λ z. omega arith, (λ z. omega arith, (λ z. omega arith, tt)))))))
 
 -- ---- what the writer gives has no fault
 pub given-clear : (b : List ℕ) → Given b → view_refusal b ≡ 0
@@ -215,7 +212,7 @@ given-clear b g =
     let lines = write_lines g.year g.bodies g.out in
     let whole = eqb (length g.bodies % 65536) 0 in
     let none = clear whole (eqb (length g.out) (book_length (length cycles))) g.unrefused in
-    ap view_refusal (g.is ∙ given_is g.out (book g.year cycles) lines positive g.unrefused)
+    ap view_refusal (g.is ∙ given_is g.out (book g.year cycles) lines g.unrefused)
     ∙ accepted g.year cycles (none-sound (contents_of g.year cycles) none)
   where
     clear : (p q : Bool) → ◌≡◌ {A = ℕ} (cond (not p) 2 (cond (not q) 2 (number (contents_of g.year (bodies_in g.bodies))))) 0
@@ -223,7 +220,3 @@ given-clear b g =
     clear true true z = z
     clear true false z = absurd (omega arith)
     clear false q z = absurd (omega arith)
-
-    positive : Positive (write_lines g.year g.bodies g.out)
-    positive =
-        (λ z. omega arith, (λ z. omega arith, (λ z. omega arith, (λ z. omega arith, (λ z. omega arith, (λ z. omega arith, (λ z. omega arith, tt)))))))

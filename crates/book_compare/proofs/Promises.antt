@@ -1,25 +1,22 @@
 -- What `compare` promises on each way out. The promise is proved once, of an answer and a table that are the definition's; each way out then shows
 -- only that its tests are lines of the refusal table, in the table's order. Assumes nothing.
-use mathlib.Core.Path.{◌≡◌, refl, sym, ap, ◌∙◌}
-use mathlib.Core.Bool.{Bool, true, false, cond, not}
-use mathlib.Core.List.{List, [], ◌∷◌, map}
-use Prim.Native.Nat.{ℕ, zero, suc, ◌+◌, ◌-◌, ◌≤◌}
+use Rattle.std.proofs.Common.{◌≡◌, refl, sym, ap, ◌∙◌, Bool, not, List, [], ◌∷◌, ◌++◌, map, ℕ, zero, suc, ◌+◌, ◌-◌, ◌≤◌, eqb, length, Result, Ok, Err}
 use native.Mathlib.Omega.{arith}
-use lib.Dec.{eqb}
-use lib.ListN.{length}
-use borrow.Author.Tests.{not-false, eq-eqb, ne_eqb, eqb-true, eqb-false}
+use borrow.Author.Tests.{not-false, eq-eqb, ne_eqb, eqb-true}
+use Rattle.base.specs.declared.refusal.Refusal.{Refusal}
+use Rattle.base.specs.declared.refusal.Refusal.TheVariants.{WrongLength, YearsDiffer}
 use Rattle.base.specs.Ranges.{tabulate}
-use Rattle.base.specs.Refusal.{Line, answered, refusal}
+use Rattle.base.specs.Refusals.{Line, ◌when◌, answered, refusal}
 use Rattle.base.proofs.Numbers.{Bytes}
-use Rattle.base.proofs.Refusals.{NoneHolds, answered-of, answered-none, answered-given}
+use Rattle.base.proofs.Lines.{NoneHolds, answered-of, answered-append, answered-given, ok-none}
 use Rattle.book.specs.Layout.{book, cycles_said, year_said, body_at, cycles_of}
-use Rattle.book.specs.Faults.{view_refusal}
+use Rattle.book.specs.Faults.{accepted, view_refusal}
 use Rattle.book.specs.Header.{year_of}
+use Rattle.book.proofs.Answered.{stops, passes, none-of, of_none, none-both, none-each}
+use Rattle.book.proofs.Ways.{accepted-none}
 use Rattle.book_check.proofs.Wholes.{is_book}
-use Rattle.book_compare.specs.declared.Compared.{Compared}
-use Rattle.book_compare.specs.declared.Compared.TheVariants.{Lines, Refused}
 use Rattle.book_compare.specs.Differences.{Cycle, cycle_at, cycles_in, Difference, Lists}
-use Rattle.book_compare.specs.Answer.{compare_lines, listed, values_of}
+use Rattle.book_compare.specs.Answer.{faults_of, compare_lines, listed, values_of}
 use Rattle.book_compare.specs.Merge.{merged, cycles_from, merged_from, Placed, PutPromise}
 use Rattle.book_compare.specs.Promise.{SameBooks, ComparePromise}
 use Rattle.book.proofs.Headers.{year_is}
@@ -73,10 +70,10 @@ module _ (a b : List ℕ) where
       is_book a va ba ∙ ap (λ (y : ℕ). book y (cycles_of a)) years ∙ ap (book (year_said b)) bodies ∙ sym (is_book b vb bb)
 
 -- two accepted books have their lengths, and all of their cycles are to come
-pub placed_first : (a b : List ℕ) (j k : ℕ) → j ≡ view_refusal a → j ≡ 0 → k ≡ view_refusal b → k ≡ 0 → Placed a b 0 0
-placed_first a b j k ea ja eb kb = record {
-  first_sized = has_size_lem a (sym ea ∙ ja);
-  second_sized = has_size_lem b (sym eb ∙ kb);
+pub placed_first : (a b : List ℕ) → view_refusal a ≡ 0 → view_refusal b ≡ 0 → Placed a b 0 0
+placed_first a b va vb = record {
+  first_sized = has_size_lem a va;
+  second_sized = has_size_lem b vb;
   first_within = omega arith;
   second_within = omega arith;
 }
@@ -92,60 +89,50 @@ module _ (a b table : List ℕ) where
   abbrev lines : List Line
   lines = compare_lines a b table
 
+  abbrev years_line : List Line
+  years_line = YearsDiffer when not (eqb (year_said a) (year_said b)) ∷ []
+
   clear_none : Clear a b table → NoneHolds lines
+  unfolding view_refusal
   clear_none c = (
     ap not (eq-eqb (length table) 1530 c.fits),
-    (
-      ap not (eq-eqb (view_refusal a) 0 c.first),
-      (ap not (eq-eqb (view_refusal b) 0 c.second), (ap not (eq-eqb (year_said a) (year_said b) c.years), tt)),
-    ),
+    none-both (faults_of a) (faults_of b ++ years_line) (none-of (faults_of a) c.first)
+    (none-both (faults_of b) years_line (none-of (faults_of b) c.second) (ap not (eq-eqb (year_said a) (year_said b) c.years), tt)),
   )
 
   none-clear : NoneHolds lines → Clear a b table
-  none-clear n = record {
-    fits = eqb-true _ _ (not-false _ n.0);
-    first = eqb-true _ _ (not-false _ n.1.0);
-    second = eqb-true _ _ (not-false _ n.1.1.0);
-    years = eqb-true _ _ (not-false _ n.1.1.1.0);
-  }
+  unfolding view_refusal
+  none-clear n =
+      let after-first = none-each (faults_of a) (faults_of b ++ years_line) n.1 in
+      let after-second = none-each (faults_of b) years_line after-first.1 in
+      record {
+        fits = eqb-true _ _ (not-false _ n.0);
+        first = of_none (faults_of a) after-first.0;
+        second = of_none (faults_of b) after-second.0;
+        years = eqb-true _ _ (not-false _ after-second.1.0);
+      }
 
   unrefused : refusal lines ≡ 0 → Clear a b table
-  unrefused = go (eqb (length table) 1530) (eqb (view_refusal a) 0) (eqb (view_refusal b) 0) (eqb (year_said a) (year_said b)) refl refl refl refl
-    where
-      go : (p q r s : Bool) → eqb (length table) 1530 ≡ p → eqb (view_refusal a) 0 ≡ q → eqb (view_refusal b) 0 ≡ r → eqb (year_said a) (year_said b) ≡ s
-          → cond (not p) 2 (cond (not q) (view_refusal a) (cond (not r) (view_refusal b) (cond (not s) 21 0))) ≡ 0 → Clear a b table
-      go true true true true ep eq er es z =
-          record { fits = eqb-true _ _ ep; first = eqb-true _ _ eq; second = eqb-true _ _ er; years = eqb-true _ _ es }
-      go true true true false ep eq er es z = absurd (omega arith)
-      go true true false s ep eq er es z = absurd (eqb-false (view_refusal b) 0 er z)
-      go true false r s ep eq er es z = absurd (eqb-false (view_refusal a) 0 eq z)
-      go false q r s ep eq er es z = absurd (omega arith)
+  unrefused z = none-clear (none-of lines z)
 
   -- ---- the promise, of an answer and a table that are the definition's
-  module _ (ba : Bytes a) (bb : Bytes b) (new : List ℕ) (r : Compared) (answer : r ≡ answered Refused lines (Lines (length (differences a b))))
+  module _ (ba : Bytes a) (bb : Bytes b) (new : List ℕ) (r : Result ℕ Refusal) (answer : r ≡ answered Err lines (Ok (length (differences a b))))
       (after : new ≡ answered (λ k. table) lines (listed (differences a b) table)) where
-    no_line : r ≡ Lines 0 → SameBooks a b
+    no_line : r ≡ Ok 0 → SameBooks a b
     no_line e =
-        let out = answered-none Refused lines (Lines (length (differences a b))) (Lines 0) (λ n. never n) (sym answer ∙ e) in
+        let out = ok-none lines (length (differences a b)) 0 (sym answer ∙ e) in
         let c = none-clear out.0 in
-        let none : length (differences a b) ≡ 0 = count (length (differences a b)) out.1 in
         record {
           first_accepted = c.first;
           second_accepted = c.second;
-          equal = same_books a b ba bb c.first c.second c.years (no_lines (differences a b) none);
+          equal = same_books a b ba bb c.first c.second c.years (no_lines (differences a b) out.1);
         }
-      where
-        never : (n : ℕ) → Refused n ≡ Lines 0 → ⊥
-        never n e = let z : ◌≡◌ {A = ℕ} 0 1 = cc in omega arith
 
-        count : (n : ℕ) → Lines n ≡ Lines 0 → n ≡ 0
-        count n e = cc
-
-    same-given : length table ≡ 1530 → SameBooks a b → r ≡ Lines 0
+    same-given : length table ≡ 1530 → SameBooks a b → r ≡ Ok 0
     same-given fits s =
         let c : Clear a b table = record { fits = fits; first = s.first_accepted; second = s.second_accepted; years = ap year_said s.equal } in
         let none : differences a b ≡ [] = ap (λ (l : List ℕ). merged (cycles_in a) (cycles_in l)) (sym s.equal) ∙ self_none (cycles_in a) in
-        answer ∙ answered-given Refused lines (Lines (length (differences a b))) (clear_none c) ∙ ap (λ (ls : List Difference). Lines (length ls)) none
+        answer ∙ answered-given Err lines (Ok (length (differences a b))) (clear_none c) ∙ ap (λ (ls : List Difference). Ok (length ls)) none
 
     pub promised : ComparePromise a b table new r
     promised = record {
@@ -156,50 +143,72 @@ module _ (a b table : List ℕ) where
           let own = lists a b c.first c.second in
           one_list ls (differences a b) l.rises own.rises (λ t. l.each t ∙ sym (own.each t));
       answer = answer;
-      told = ap values_of answer ∙ answered-of values_of Refused lines (Lines (length (differences a b)));
+      told = ap values_of answer ∙ answered-of values_of Err lines (Ok (length (differences a b)));
       after = after;
       none_same = no_line;
       same_none = same-given;
     }
 
-  -- ---- the ways out
+  -- ---- the ways out, whatever is made of a refusal
+  module _ (fits : length table ≡ 1530) {A : Type 0} (refused : Refusal → A) (given : A) where
+    past_table : answered refused lines given ≡ answered refused (faults_of a ++ (faults_of b ++ years_line)) given
+    past_table = rw (eq-eqb (length table) 1530 fits)
+
+    first-stops : (k : Refusal) → accepted a ≡ Err k → answered refused lines given ≡ refused k
+    unfolding accepted
+    first-stops k e =
+        past_table ∙ answered-append refused (faults_of a) (faults_of b ++ years_line) given ∙ stops (faults_of a) tt k e refused _
+
+    module _ (va : accepted a ≡ Ok tt) where
+      past_first : answered refused lines given ≡ answered refused (faults_of b ++ years_line) given
+      unfolding accepted
+      past_first =
+          past_table ∙ answered-append refused (faults_of a) (faults_of b ++ years_line) given ∙ passes (faults_of a) tt tt va refused _
+
+      second-stops : (k : Refusal) → accepted b ≡ Err k → answered refused lines given ≡ refused k
+      unfolding accepted
+      second-stops k e = past_first ∙ answered-append refused (faults_of b) years_line given ∙ stops (faults_of b) tt k e refused _
+
+      module _ (vb : accepted b ≡ Ok tt) where
+        past_both : answered refused lines given ≡ answered refused years_line given
+        unfolding accepted
+        past_both = past_first ∙ answered-append refused (faults_of b) years_line given ∙ passes (faults_of b) tt tt vb refused _
+
+        years-stop : (year_said a ≡ year_said b → ⊥) → answered refused lines given ≡ refused YearsDiffer
+        years-stop h = past_both ∙ rw (ne_eqb (year_said a) (year_said b) h)
+
+        years_pass : year_said a ≡ year_said b → answered refused lines given ≡ given
+        years_pass e = past_both ∙ rw (eq-eqb (year_said a) (year_said b) e)
+
   module _ (ba : Bytes a) (bb : Bytes b) where
-    pub wrong-table : (length table ≡ 1530 → ⊥) → ComparePromise a b table table (Refused 2)
-    wrong-table h = let e = ne_eqb (length table) 1530 h in promised ba bb table (Refused 2) (rw e) (rw e)
+    pub wrong-table : (length table ≡ 1530 → ⊥) → ComparePromise a b table table (Err WrongLength)
+    wrong-table h = let e = ne_eqb (length table) 1530 h in promised ba bb table (Err WrongLength) (rw e) (rw e)
 
     module _ (fits : length table ≡ 1530) where
-      abbrev t : eqb (length table) 1530 ≡ true
-      t = eq-eqb (length table) 1530 fits
+      pub first-faulty : (k : Refusal) → accepted a ≡ Err k → ComparePromise a b table table (Err k)
+      first-faulty k e =
+          promised ba bb table (Err k) (sym (first-stops fits Err _ k e)) (sym (first-stops fits (λ n. table) _ k e))
 
-      pub first-faulty : (k : ℕ) → k ≡ view_refusal a → (k ≡ 0 → ⊥) → ComparePromise a b table table (Refused k)
-      first-faulty k e nz = let n = ne_eqb k 0 nz in promised ba bb table (Refused k) (rw (t, ← e, n)) (rw (t, ← e, n))
+      module _ (va : accepted a ≡ Ok tt) where
+        pub second-faulty : (k : Refusal) → accepted b ≡ Err k → ComparePromise a b table table (Err k)
+        second-faulty k e =
+            promised ba bb table (Err k) (sym (second-stops fits Err _ va k e)) (sym (second-stops fits (λ n. table) _ va k e))
 
-      module _ (j : ℕ) (ea : j ≡ view_refusal a) (j-0 : j ≡ 0) where
-        va : view_refusal a ≡ 0
-        va = sym ea ∙ j-0
+        module _ (vb : accepted b ≡ Ok tt) (y z : ℕ) (ey : y ≡ year_of a) (ez : z ≡ year_of b) where
+          first-year : y ≡ year_said a
+          first-year = year_is a (has_size_lem a (accepted-none a va)) y ey
 
-        pub second-faulty : (k : ℕ) → k ≡ view_refusal b → (k ≡ 0 → ⊥) → ComparePromise a b table table (Refused k)
-        second-faulty k e nz = let n = ne_eqb k 0 nz in promised ba bb table (Refused k) (rw (t, va, ← e, n)) (rw (t, va, ← e, n))
+          second-year : z ≡ year_said b
+          second-year = year_is b (has_size_lem b (accepted-none b vb)) z ez
 
-        module _ (k : ℕ) (eb : k ≡ view_refusal b) (k-0 : k ≡ 0) where
-          vb : view_refusal b ≡ 0
-          vb = sym eb ∙ k-0
+          pub other-years : (y ≡ z → ⊥) → ComparePromise a b table table (Err YearsDiffer)
+          other-years h =
+              let n = λ (e : year_said a ≡ year_said b). h (first-year ∙ e ∙ sym second-year) in
+              promised ba bb table (Err YearsDiffer) (sym (years-stop fits Err _ va vb n)) (sym (years-stop fits (λ k. table) _ va vb n))
 
-          module _ (y z : ℕ) (ey : y ≡ year_of a) (ez : z ≡ year_of b) where
-            first-year : y ≡ year_said a
-            first-year = year_is a (has_size_lem a va) y ey
-
-            second-year : z ≡ year_said b
-            second-year = year_is b (has_size_lem b vb) z ez
-
-            pub other-years : (y ≡ z → ⊥) → ComparePromise a b table table (Refused 21)
-            other-years h =
-                let n = ne_eqb (year_said a) (year_said b) (λ e. h (first-year ∙ e ∙ sym second-year)) in
-                promised ba bb table (Refused 21) (rw (t, va, vb, n)) (rw (t, va, vb, n))
-
-            pub lines-put : (n : ℕ) (new : List ℕ) → y ≡ z → PutPromise a b table new n → ComparePromise a b table new (Lines n)
-            lines-put n new h p =
-                let same = eq-eqb (year_said a) (year_said b) (sym first-year ∙ h ∙ second-year) in
-                promised ba bb new (Lines n)
-                (ap Lines (p.count ∙ ap length (whole-merge a b)) ∙ rw (t, va, vb, same))
-                (p.after ∙ ap (λ (ls : List Difference). listed ls table) (whole-merge a b) ∙ rw (t, va, vb, same))
+          pub lines-put : (n : ℕ) (new : List ℕ) → y ≡ z → PutPromise a b table new n → ComparePromise a b table new (Ok n)
+          lines-put n new h p =
+              let same = sym first-year ∙ h ∙ second-year in
+              promised ba bb new (Ok n)
+              (ap Ok (p.count ∙ ap length (whole-merge a b)) ∙ sym (years_pass fits Err _ va vb same))
+              (p.after ∙ ap (λ (ls : List Difference). listed ls table) (whole-merge a b) ∙ sym (years_pass fits (λ k. table) _ va vb same))

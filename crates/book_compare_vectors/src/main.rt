@@ -5,7 +5,7 @@
 
 ghost use Rattle.std.specs.Prelude.{◌≡◌, length};
 
-use book_compare::Compared;
+use base::refusal::Refusal;
 use std::io;
 use std::io::Input;
 use vectors::{field, fields, filled, number, put};
@@ -23,12 +23,10 @@ fn main(rt: HostRuntime) -> io::Result<()> {
     let first: &mut [u8] = &mut first_space;
     let second: &mut [u8] = &mut second_space;
     let table: &mut [u64] = &mut table_space;
-    let mut left = vectors::MOST_RECORDS;
-    while left > 0 {
+    for _ in 0..vectors::MOST_RECORDS {
         if !turn(&rt, &mut *first, &mut *second, &mut *table)? {
             return Ok(());
         }
-        left -= 1;
     }
     Ok(())
 }
@@ -96,11 +94,11 @@ fn repeat(rt: &impl Input, area: &mut [u8], place: usize, from: usize) -> bool {
     true
 }
 
+// Byte by byte from the first on: what was put is read again where the parts overlap, which
+// `copy_within` would not do.
 fn put_again(area: &mut [u8], place: usize, from: usize, n: usize) {
-    let mut i: usize = 0;
-    while i < n {
+    for i in 0..n {
         set(area, place, i, byte_at(area, from, i));
-        i += 1;
     }
 }
 
@@ -154,22 +152,20 @@ fn compare(
 
 // Numbers of which each is another.
 fn put_pattern(table: &mut [u64]) {
-    let mut i: usize = 0;
-    while i < table.len() {
-        table[i] = 0xFFFF_FFFF_FFFF_FFFF - i as u64;
-        i += 1;
+    for (i, number) in table.iter_mut().enumerate() {
+        *number = u64::MAX - i as u64;
     }
 }
 
-fn put_compared(rt: &impl Print, answer: Compared, table: &[u64]) -> io::Result<()> {
+fn put_compared(rt: &impl Print, answer: Result<u64, Refusal>, table: &[u64]) -> io::Result<()> {
     match answer {
-        Compared::Lines(n) => {
+        Ok(n) => {
             field(rt, b"lines ", n)?;
             put_sum(rt, table)?;
             put_lines(rt, table, n)
         }
-        Compared::Refused(number) => {
-            field(rt, b"refused ", number as u64)?;
+        Err(refusal) => {
+            field(rt, b"refused ", u64::from(refusal.number()))?;
             put_sum(rt, table)
         }
     }
@@ -178,29 +174,17 @@ fn put_compared(rt: &impl Print, answer: Compared, table: &[u64]) -> io::Result<
 // The sum of all numbers of the table, used or not.
 fn put_sum(rt: &impl Print, table: &[u64]) -> io::Result<()> {
     let mut sum: u64 = 0;
-    let mut i: usize = 0;
-    while i < table.len() {
-        sum = vectors::mix(sum, table[i]);
-        i += 1;
+    for &number in table {
+        sum = vectors::mix(sum, number);
     }
     field(rt, b" sum ", sum)?;
     put(rt, b"\n")
 }
 
+// The first n lines of three numbers, as far as the table goes.
 fn put_lines(rt: &impl Print, table: &[u64], n: u64) -> io::Result<()> {
-    let mut at: usize = 0;
-    let mut left = n;
-    while left > 0 {
-        if table.len() <= at {
-            return Ok(());
-        }
-        if table.len() - at < 3 {
-            return Ok(());
-        }
-        let end = at + 3;
-        fields(rt, b"# # #\n", &table[at..end])?;
-        at = end;
-        left -= 1;
+    for line in table.chunks_exact(3).take(n as usize) {
+        fields(rt, b"# # #\n", line)?;
     }
     Ok(())
 }

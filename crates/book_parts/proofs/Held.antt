@@ -1,33 +1,45 @@
 -- The entries and bodies that a book hands out: their lengths, and the instant that an entry holds. Assumes nothing.
-use mathlib.Core.Path.{◌≡◌, refl, sym, ap, ◌∙◌}
-use mathlib.Core.List.{List}
-use Prim.Native.Nat.{ℕ, ◌+◌, ◌*◌, ◌<◌}
+use Rattle.std.proofs.Common.{◌≡◌, refl, sym, ap, ◌∙◌, List, ℕ, ◌+◌, ◌*◌, ◌<◌, length, take, drop, Result, Ok, Err, IsOk}
 use native.Mathlib.Omega.{arith}
-use lib.ListN.{length, take, drop, length-drop}
+use lib.ListN.{length-drop}
 use lib.Seq.{take-take, length-take-le}
-use borrow.Author.Tests.{lt-leb}
+use borrow.Author.Tests.{lt-leb, leb-false, not-false}
+use denote.Ref.{Bor}
+use Rattle.base.specs.declared.refusal.Refusal.{Refusal}
 use Rattle.base.specs.Numbers.{big_endian, NumberOf}
 use Rattle.base.proofs.Numbers.{short-take}
-use Rattle.base.proofs.Refusals.{refused-is}
-use Rattle.book.specs.Layout.{bytes_at, body_start, cycles_said, instant_at, body_at}
+use Rattle.base.proofs.Lines.{NoneHolds, ok-none}
+use Rattle.book.specs.Layout.{bytes_at, entry_start, body_start, cycles_said, instant_at, body_at}
 use Rattle.book.specs.Faults.{view_refusal}
+use Rattle.book.specs.Header.{has_size}
+use Rattle.book.proofs.Answered.{stops}
 use Rattle.book.proofs.Headers.{sizes}
 use Rattle.book.proofs.Holding.{has_size_lem}
 use Rattle.book_parts.specs.declared.Place.{Place}
-use Rattle.book_parts.specs.Parts.{part_lines, part_refusal, instant_told, entry_place, body_place, Entered}
-use Rattle.book_parts.proofs.Places.{There, entry-there, body-there}
+use Rattle.book_parts.specs.Parts.{part_lines, place, instant_told, entry_place, body_place, Entered, IsPart, HandsOut}
+use Rattle.book_parts.proofs.Places.{There, entry-there, body-there, refused_place, given_place, is_given}
 
 -- an accepted book has the entries that it says
 pub entered : (b : List ℕ) → view_refusal b ≡ 0 → (i : ℕ) → i < cycles_said b → Entered b i
 entered b accepted i h = record { sized = has_size_lem b accepted; below = h }
 
-pub of_there : (b : List ℕ) (i : ℕ) → There b i → Entered b i
-of_there b i t = record { sized = t.tested; below = t.below }
+-- ---- what is handed out
+module _ (s : Bor (List ℕ)) (i : ℕ) where
+  module _ (r : Bor (List ℕ)) (h : HandsOut (Ok r) s (entry_place s.now i)) where
+    told : NoneHolds (part_lines s.now i) × (place (entry_start i) 12 ≡ (given_place s (entry_place s.now i) r h).0)
+    unfolding entry_place
+    told = ok-none (part_lines s.now i) (place (entry_start i) 12) _ (given_place s (entry_place s.now i) r h).1
 
--- ---- the instant that is told
-pub instant-refused : (b : List ℕ) (i : ℕ) → (part_refusal b i ≡ 0 → ⊥) → 0 ≡ instant_told b i
-unfolding instant_told part_refusal
-instant-refused b i h = sym (refused-is 0 (instant_at b i) (part_lines b i) h)
+    pub entry_is : Entered s.now i
+    entry_is = record { sized = not-false (has_size s.now) told.0.0; below = leb-false (cycles_said s.now) i told.0.1.0 }
+
+    pub entry-part : IsPart r s (place (entry_start i) 12)
+    entry-part = rw told.1 (given_place s (entry_place s.now i) r h).2
+
+  pub instant-refused : (e : Refusal) → HandsOut (Err e) s (entry_place s.now i) → 0 ≡ instant_told s.now i
+  unfolding instant_told entry_place
+  instant-refused e h =
+      sym (stops (part_lines s.now i) (place (entry_start i) 12) e (refused_place s (entry_place s.now i) e h) (λ n. 0) (instant_at s.now i))
 
 pub instant-there : (b : List ℕ) (i : ℕ) → Entered b i → instant_told b i ≡ instant_at b i
 unfolding instant_told
@@ -39,21 +51,18 @@ module _ (b : List ℕ) (i : ℕ) (e : Entered b i) where
   is_there = let s = sizes b e.sized in record { header = s.header; size = s.size; below = e.below; tested = e.sized }
 
   -- the entry that is handed out: it is long enough, and its first eight bytes are the instant
-  module _ (l : List ℕ) (part : l ≡ bytes_at (entry_place b i).start (entry_place b i).length b) where
-    entry-bytes : l ≡ bytes_at (4 + 12 * i) 12 b
-    entry-bytes = part ∙ ap (λ (p : Place). bytes_at p.start p.length b) (sym (entry-there b i is_there).is)
-
+  module _ (l : List ℕ) (part : l ≡ bytes_at (entry_start i) 12 b) where
     pub entry_length : length l ≡ 12
     entry_length =
         let s = is_there.size in
         let h = e.below in
-        ap length entry-bytes ∙ length-take-le 12 (drop (4 + 12 * i) b) (omega (arith, length-drop (4 + 12 * i) b))
+        ap length part ∙ length-take-le 12 (drop (4 + 12 * i) b) (omega (arith, length-drop (4 + 12 * i) b))
 
     pub instant-is : (r : ℕ) → NumberOf (take 8 l) r → r ≡ instant_at b i
     unfolding instant_at
     instant-is r p =
         let first = take 8 (drop (4 + 12 * i) b) in
-        let eight : take 8 l ≡ first = ap (λ (m : List ℕ). take 8 m) entry-bytes ∙ take-take 8 12 (drop (4 + 12 * i) b) (omega arith) in
+        let eight : take 8 l ≡ first = ap (λ (m : List ℕ). take 8 m) part ∙ take-take 8 12 (drop (4 + 12 * i) b) (omega arith) in
         p.whole (short-take 8 l) ∙ ap big_endian eight
 
   pub body-length : length (body_at b i) ≡ 65536
@@ -64,7 +73,14 @@ module _ (b : List ℕ) (i : ℕ) (e : Entered b i) where
       let start = body_start (cycles_said b) i in
       length-take-le 65536 (drop start b) (omega (arith, length-drop start b))
 
-  -- the body that is handed out
-  pub body_bytes : (l : List ℕ) → l ≡ bytes_at (body_place b i).start (body_place b i).length b → l ≡ body_at b i
+-- ---- a body
+module _ (s : Bor (List ℕ)) (i : ℕ) (e : Entered s.now i) where
+  body_is : body_place s.now i ≡ Ok (place (body_start (cycles_said s.now) i) 65536)
+  body_is = sym (body-there s.now i (is_there s.now i e) (body_start (cycles_said s.now) i) refl).is
+
+  pub body-given : (r : Result (Bor (List ℕ)) Refusal) → HandsOut r s (body_place s.now i) → IsOk r
+  body-given r = is_given s (body_place s.now i) (place (body_start (cycles_said s.now) i) 65536) r body_is
+
+  pub body_bytes : (r : Bor (List ℕ)) → HandsOut (Ok r) s (body_place s.now i) → r.now ≡ body_at s.now i
   unfolding body_at
-  body_bytes l part = part ∙ ap (λ (p : Place). bytes_at p.start p.length b) (sym (body-there b i is_there (cycles_said b) refl).is)
+  body_bytes r h = (rw body_is at h).contents_are

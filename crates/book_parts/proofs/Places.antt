@@ -1,40 +1,27 @@
 -- The parts of a book: each way out of the entries that hand out parts or tell where they lie. Assumes nothing.
-use mathlib.Core.Path.{◌≡◌, refl, sym}
-use mathlib.Core.Bool.{Bool, true, false, cond, not}
-use mathlib.Core.List.{List}
-use Prim.Native.Nat.{ℕ, ◌+◌, ◌*◌, ◌≤◌, ◌<◌}
+use Rattle.std.proofs.Common.{◌≡◌, refl, sym, ap, ◌∙◌, Bool, true, false, cond, not, List, [], ◌∷◌, ℕ, ◌+◌, ◌*◌, ◌≤◌, ◌<◌, leb, length, Result, Ok, Err, IsOk}
 use native.Mathlib.Omega.{arith}
-use lib.Dec.{leb}
-use lib.ListN.{length}
-use borrow.Author.Tests.{leb-false, le-leb, lt-leb}
+use borrow.Author.Tests.{leb-false, le-leb, lt-leb, not-false}
 use borrow.Rule.Slice.Shared.{by_byte}
-use Rattle.base.proofs.Refusals.{refused-is}
+use denote.Ref.{Bor}
+use Rattle.base.specs.declared.refusal.Refusal.{Refusal}
+use Rattle.base.specs.declared.refusal.Refusal.TheVariants.{WrongBookLength, NoSuchEntry}
+use Rattle.base.specs.Refusals.{Line, answered, number}
+use Rattle.base.proofs.Lines.{ok-none}
+use Rattle.book.specs.declared.header.Header.{Header}
 use Rattle.book.specs.Layout.{entry_start, body_start, cycles_said}
-use Rattle.book.specs.Header.{has_size, header_refusal, count_of}
+use Rattle.book.specs.Header.{has_size, header_lines, header_of}
 use Rattle.book.specs.Sought.{Sized}
-use Rattle.book.proofs.Headers.{sizes, header_size, count-is}
-use Rattle.book_parts.specs.Parts.{part_lines, part_refusal, place, nowhere, entry_place, body_place, PlacePromise}
+use Rattle.book.proofs.Answered.{stops}
+use Rattle.book.proofs.Headers.{sizes}
+use Rattle.book_parts.specs.declared.Place.{Place}
+use Rattle.book_parts.specs.Parts.{part_lines, place, entry_place, body_place, IsPart, HandsOut, PlacePromise}
 
 -- ---- whether there is an entry i
-module _ (b : List ℕ) (i : ℕ) where
-  pub part-refused : (header_refusal b ≡ 0 → ⊥) → header_refusal b ≡ part_refusal b i
-  unfolding header_refusal part_refusal
-  part-refused = go (has_size b)
-    where
-      go : (p : Bool) → (◌≡◌ {A = ℕ} (cond (not p) 16 0) 0 → ⊥) → ◌≡◌ {A = ℕ} (cond (not p) 16 0) (cond (not p) 16 (cond (leb (cycles_said b) i) 20 0))
-      go true h = absurd (h refl)
-      go false h = refl
 
-  module _ (e : header_refusal b ≡ 0) where
-    pub no_entry : count_of b ≤ i → 20 ≡ part_refusal b i
-    unfolding part_refusal
-    no_entry h = let n = count-is b (header_size b e) (count_of b) refl in rw (header_size b e, le-leb (cycles_said b) i (omega (arith, n, h)))
-
-    pub an_entry : i < count_of b → 0 ≡ part_refusal b i
-    unfolding part_refusal
-    an_entry h = let n = count-is b (header_size b e) (count_of b) refl in rw (header_size b e, lt-leb (cycles_said b) i (omega (arith, n, h)))
-
--- ---- places
+-- the number of cycles, where there is one
+abbrev pub past : List ℕ → ℕ → Result ℕ Refusal
+past b i = answered Err (part_lines b i) (Ok (cycles_said b))
 
 -- what is known where there is an entry i
 pub record There (b : List ℕ) (i : ℕ) : Type 0 where
@@ -43,39 +30,80 @@ pub record There (b : List ℕ) (i : ℕ) : Type 0 where
   pub below : i < cycles_said b
   pub tested : has_size b ≡ true
 
-pub there : (b : List ℕ) (i : ℕ) → part_refusal b i ≡ 0 → There b i
-unfolding part_refusal
-there b i = go (has_size b) (leb (cycles_said b) i) refl refl
-  where
-    go : (p q : Bool) → has_size b ≡ p → leb (cycles_said b) i ≡ q → ◌≡◌ {A = ℕ} (cond (not p) 16 (cond q 20 0)) 0 → There b i
-    go true false ep eq e = let s = sizes b ep in record { header = s.header; size = s.size; below = leb-false (cycles_said b) i eq; tested = ep }
-    go true true ep eq e = absurd (omega arith)
-    go false q ep eq e = absurd (omega arith)
-
 module _ (b : List ℕ) (i : ℕ) where
-  module _ (no : part_refusal b i ≡ 0 → ⊥) where
-    pub entry-refused : PlacePromise b (entry_place b i) nowhere
-    unfolding entry_place part_refusal
-    entry-refused = record { is = sym (refused-is nowhere (place (entry_start i) 12) (part_lines b i) no); within = omega arith }
+  pub no_header : (e : Refusal) → answered Err (header_lines b) (Ok (header_of b)) ≡ Err e → Err e ≡ past b i
+  no_header e = go (has_size b)
+    where
+      go : (p : Bool) → cond (not p) (Err WrongBookLength) (Ok (header_of b)) ≡ Err e
+          → Err e ≡ cond (not p) (Err WrongBookLength) (cond (leb (cycles_said b) i) (Err NoSuchEntry) (Ok (cycles_said b)))
+      go true h = cc
+      go false h = cc
 
-    pub body_refused : PlacePromise b (body_place b i) nowhere
-    unfolding body_place part_refusal
-    body_refused = record { is = sym (refused-is nowhere (place (body_start (cycles_said b) i) 65536) (part_lines b i) no); within = omega arith }
+  module _ (h : Header) (is : answered Err (header_lines b) (Ok (header_of b)) ≡ Ok h) where
+    sized : has_size b ≡ true
+    sized = not-false (has_size b) (ok-none (header_lines b) (header_of b) h is).0.0
+
+    count : cycles_said b ≡ h.cycles
+    count = ap (λ (x : Header). x.cycles) (ok-none (header_lines b) (header_of b) h is).1
+
+    pub no_entry : h.cycles ≤ i → Err NoSuchEntry ≡ past b i
+    no_entry l = let n = count in rw (sized, le-leb (cycles_said b) i (omega arith))
+
+    pub an_entry : i < h.cycles → Ok h.cycles ≡ past b i
+    an_entry l = let n = count in rw (sized, lt-leb (cycles_said b) i (omega arith)) (ap Ok (sym count))
+
+  pub there : (n : ℕ) → past b i ≡ Ok n → There b i
+  there n e =
+      let none = (ok-none (part_lines b i) (cycles_said b) n e).0 in
+      let t = not-false (has_size b) none.0 in
+      let s = sizes b t in
+      record { header = s.header; size = s.size; below = leb-false (cycles_said b) i none.1.0; tested = t }
+
+  pub counted : (n : ℕ) → past b i ≡ Ok n → cycles_said b ≡ n
+  counted n e = (ok-none (part_lines b i) (cycles_said b) n e).1
+
+-- ---- places
+module _ (b : List ℕ) (i : ℕ) where
+  module _ (e : Refusal) (no : past b i ≡ Err e) where
+    pub entry-refused : PlacePromise b (entry_place b i) (Err e)
+    unfolding entry_place
+    entry-refused = record { is = sym (stops (part_lines b i) (cycles_said b) e no Err (Ok (place (entry_start i) 12))); within = tt }
+
+    pub body_refused : PlacePromise b (body_place b i) (Err e)
+    unfolding body_place
+    body_refused = record { is = sym (stops (part_lines b i) (cycles_said b) e no Err (Ok (place (body_start (cycles_said b) i) 65536))); within = tt }
 
   module _ (t : There b i) where
-    pub entry-there : PlacePromise b (entry_place b i) (place (4 + 12 * i) 12)
+    pub entry-there : PlacePromise b (entry_place b i) (Ok (place (4 + 12 * i) 12))
     unfolding entry_place
     entry-there =
         let s = t.size in
         let l = t.below in
         record { is = rw (t.tested, lt-leb (cycles_said b) i l); within = omega arith }
 
-    pub body-there : (n : ℕ) → n ≡ cycles_said b → PlacePromise b (body_place b i) (place (4 + 12 * n + 65536 * i) 65536)
+    pub body-there : (start : ℕ) → start ≡ body_start (cycles_said b) i → PlacePromise b (body_place b i) (Ok (place start 65536))
     unfolding body_place
-    body-there n e =
+    body-there start e =
         let s = t.size in
         let l = t.below in
         record { is = rw (e, t.tested, lt-leb (cycles_said b) i l); within = omega arith }
+
+-- ---- what is handed out
+module _ (s : Bor (List ℕ)) where
+  pub refused_place : (p : Result Place Refusal) (e : Refusal) → HandsOut (Err e) s p → p ≡ Err e
+  refused_place (Ok q) e = λ h. absurd h
+  refused_place (Err f) e = λ h. ap Err (sym h)
+
+  pub given_place : (p : Result Place Refusal) (r : Bor (List ℕ)) → HandsOut (Ok r) s p → (q : Place) × (p ≡ Ok q) × IsPart r s q
+  given_place (Ok q) r = λ h. (q, refl, h)
+  given_place (Err e) r = λ h. absurd h
+
+  -- where there is a place, a part is handed out
+  pub is_given : (p : Result Place Refusal) (q : Place) (r : Result (Bor (List ℕ)) Refusal) → p ≡ Ok q → HandsOut r s p → IsOk r
+  is_given (Ok p) q (Ok r) = λ e h. refl
+  is_given (Ok p) q (Err f) = λ e h. absurd h
+  is_given (Err p) q (Ok r) = λ e h. absurd h
+  is_given (Err p) q (Err f) = λ e h. cc
 
 -- the pointer of a part that starts k on
 pub starts : (k o : ℕ) → by_byte k o ≡ o + k

@@ -1,7 +1,9 @@
 -- The parts that a book hands out (02, request 7): where entry i and body i stand, and when they are refused. Definitions only.
-use Rattle.std.specs.Prelude.{◌≡◌, true, not, List, [], ◌∷◌, ℕ, ◌+◌, ◌≤◌, ◌<◌, leb, length}
+use Rattle.std.specs.Prelude.{◌≡◌, true, not, List, [], ◌∷◌, ℕ, ◌+◌, ◌≤◌, ◌<◌, leb, length, Result, Ok, Err, IfOk}
 use Rattle.std.specs.Borrow.{Bor}
-use Rattle.base.specs.Refusal.{Line, ◌when◌, answered, refusal}
+use Rattle.base.specs.declared.refusal.Refusal.{Refusal}
+use Rattle.base.specs.declared.refusal.Refusal.TheVariants.{WrongBookLength, NoSuchEntry}
+use Rattle.base.specs.Refusals.{Line, ◌when◌, answered, refusal}
 use Rattle.cycle.specs.Cycle.{cycle_length}
 use Rattle.book.specs.Layout.{entry_length, entry_start, body_start, bytes_at, cycles_said, instant_at}
 use Rattle.book.specs.Header.{has_size}
@@ -9,7 +11,7 @@ use Rattle.book_parts.specs.declared.Place.{Place}
 
 -- 16, as of the header; then 20: no entry i
 abbrev pub part_lines : List ℕ → ℕ → List Line
-part_lines b i = 16 when not (has_size b) ∷ 20 when leb (cycles_said b) i ∷ []
+part_lines b i = WrongBookLength when not (has_size b) ∷ NoSuchEntry when leb (cycles_said b) i ∷ []
 
 unfoldable pub part_refusal : List ℕ → ℕ → ℕ
 part_refusal b i = refusal (part_lines b i)
@@ -28,15 +30,11 @@ pub record Entered (b : List ℕ) (i : ℕ) : Type 0 where
 abbrev pub place : ℕ → ℕ → Place
 place start length = record { start = start; length = length }
 
--- nothing is handed out
-abbrev pub nowhere : Place
-nowhere = place 0 0
+unfoldable pub entry_place : List ℕ → ℕ → Result Place Refusal
+entry_place b i = answered Err (part_lines b i) (Ok (place (entry_start i) entry_length))
 
-unfoldable pub entry_place : List ℕ → ℕ → Place
-entry_place b i = answered (λ n. nowhere) (part_lines b i) (place (entry_start i) entry_length)
-
-unfoldable pub body_place : List ℕ → ℕ → Place
-body_place b i = answered (λ n. nowhere) (part_lines b i) (place (body_start (cycles_said b) i) cycle_length)
+unfoldable pub body_place : List ℕ → ℕ → Result Place Refusal
+body_place b i = answered Err (part_lines b i) (Ok (place (body_start (cycles_said b) i) cycle_length))
 
 -- r is the part of s at this place: it reads as those bytes, and is the caller's own memory, from the place's start on
 pub record IsPart (r s : Bor (List ℕ)) (p : Place) : Type 0 where
@@ -44,7 +42,14 @@ pub record IsPart (r s : Bor (List ℕ)) (p : Place) : Type 0 where
   pub block : r.ref_ptr.0 ≡ s.ref_ptr.0
   pub offset : r.ref_ptr.1 ≡ s.ref_ptr.1 + p.start
 
+-- r hands out the part of s at this place, and is refused where the place is, alike
+abbrev pub HandsOut : Result (Bor (List ℕ)) Refusal → Bor (List ℕ) → Result Place Refusal → Type 0
+HandsOut (Ok r) s (Ok p) = IsPart r s p
+HandsOut (Ok r) s (Err e) = ⊥
+HandsOut (Err e) s (Ok p) = ⊥
+HandsOut (Err e) s (Err f) = e ≡ f
+
 -- a place that is told of the book b: it is this one, and lies within the book
-pub record PlacePromise (b : List ℕ) (p r : Place) : Type 0 where
+pub record PlacePromise (b : List ℕ) (p r : Result Place Refusal) : Type 0 where
   pub is : r ≡ p
-  pub within : r.start + r.length ≤ length b
+  pub within : IfOk r (λ q. q.start + q.length ≤ length b)

@@ -2,92 +2,85 @@
 // is computed. The length and the number of cycles are tested, and nothing else.
 #![tactic(auto)]
 
-ghost use Rattle.std.specs.Prelude.{◌≡◌, ◌+◌, ◌≤◌, length};
-ghost use Rattle.book_parts.specs.Parts.{part_refusal, instant_told, entry_place, body_place, IsPart, PlacePromise};
+ghost use Rattle.std.specs.Prelude.{◌≡◌, ◌+◌, ◌≤◌, length, Ok, Err};
+ghost use Rattle.base.specs.Refusals.{answered};
+ghost use Rattle.book.specs.Layout.{cycles_said};
+ghost use Rattle.book_parts.specs.Parts.{part_lines, instant_told, entry_place, body_place, HandsOut, IsPart, PlacePromise};
 
-use base::{big_endian, refusal};
+use base::big_endian;
+use base::refusal::Refusal;
 use book::{ENTRY, HEADER};
 use cycle::CYCLE;
 
 // Where a part of a book lies.
-#[derive(Clone, Copy)]
+#[derive(Clone, Copy, Debug, PartialEq, Eq)]
 pub struct Place {
     pub start: usize,
     pub length: usize,
 }
 
-// 0, or why no entry i and no body i is handed out. 16: the length, or more than 255 cycles. 20: no entry i.
-pub fn part_refusal(bytes: &[u8], i: u64) -> u8
-    ensures { result ≡ part_refusal bytes.now i }
+// The 12 bytes of entry i, no copy. Refused as its place is.
+pub fn entry(bytes: &[u8], i: u64) -> Result<&[u8], Refusal>
+    ensures { HandsOut result bytes.entry (entry_place bytes.now i) }
 {
-    let number = book::header_refusal(bytes);
-    if number != 0 {
-        return number;
+    match entry_place(bytes, i) {
+        Ok(place) => Ok(part(bytes, place)),
+        Err(refusal) => Err(refusal),
     }
-    if book::cycles(bytes) <= i {
-        return refusal::NO_SUCH_ENTRY;
+}
+
+// The 65,536 bytes of body i, no copy. Refused as its place is.
+pub fn body(bytes: &[u8], i: u64) -> Result<&[u8], Refusal>
+    ensures { HandsOut result bytes.entry (body_place bytes.now i) }
+{
+    match body_place(bytes, i) {
+        Ok(place) => Ok(part(bytes, place)),
+        Err(refusal) => Err(refusal),
     }
-    0
 }
 
-// The 12 bytes of entry i, no copy; an empty part where it is refused.
-pub fn entry(bytes: &[u8], i: u64) -> &[u8]
-    ensures { IsPart result bytes.entry (entry_place bytes.now i) }
-{
-    let place = entry_place(bytes, i);
-    part(bytes, place)
-}
-
-// The 65,536 bytes of body i, no copy; an empty part where it is refused.
-pub fn body(bytes: &[u8], i: u64) -> &[u8]
-    ensures { IsPart result bytes.entry (body_place bytes.now i) }
-{
-    let place = body_place(bytes, i);
-    part(bytes, place)
-}
-
-// The instant that entry i holds; 0 where it is refused.
+// The instant that entry i holds; 0 where it is refused. It refuses nothing, since its callers ask
+// for entries that they know to be there.
 pub fn instant(bytes: &[u8], i: u64) -> u64
     ensures { result ≡ instant_told bytes.now i }
 {
-    if part_refusal(bytes, i) != 0 {
-        return 0;
+    match entry(bytes, i) {
+        Ok(held) => big_endian::read(&held[0..8]),
+        Err(_) => 0,
     }
-    let held = entry(bytes, i);
-    big_endian::read(&held[0..8])
 }
 
-// Where entry i lies; 0 and 0 where it is refused.
-pub fn entry_place(bytes: &[u8], i: u64) -> Place
+// Where entry i lies. Refused 16: the length, or more than 255 cycles. Refused 20: no entry i.
+pub fn entry_place(bytes: &[u8], i: u64) -> Result<Place, Refusal>
     ensures { PlacePromise bytes.now (entry_place bytes.now i) result }
 {
-    if part_refusal(bytes, i) != 0 {
-        return Place {
-            start: 0,
-            length: 0,
-        };
-    }
-    Place {
+    cycles_past(bytes, i)?;
+    Ok(Place {
         start: HEADER + ENTRY * (i as usize),
         length: ENTRY,
-    }
+    })
 }
 
-// Where body i lies; 0 and 0 where it is refused.
-pub fn body_place(bytes: &[u8], i: u64) -> Place
+// Where body i lies. Refused as of entry i.
+pub fn body_place(bytes: &[u8], i: u64) -> Result<Place, Refusal>
     ensures { PlacePromise bytes.now (body_place bytes.now i) result }
 {
-    if part_refusal(bytes, i) != 0 {
-        return Place {
-            start: 0,
-            length: 0,
-        };
-    }
-    let n = book::cycles(bytes) as usize;
-    Place {
-        start: HEADER + ENTRY * n + CYCLE * (i as usize),
+    let n = cycles_past(bytes, i)?;
+    Ok(Place {
+        start: book::body_start(n as u8, i as u8),
         length: CYCLE,
+    })
+}
+
+// The number of cycles, which is above i.
+fn cycles_past(bytes: &[u8], i: u64) -> Result<u64, Refusal>
+    ensures { result ≡ answered Err (part_lines bytes.now i) (Ok (cycles_said bytes.now)) }
+{
+    let header = book::read_header(bytes)?;
+    if header.cycles <= i {
+        return Err(Refusal::NoSuchEntry);
     }
+    Ok(header.cycles)
 }
 
 fn part(bytes: &[u8], place: Place) -> &[u8]

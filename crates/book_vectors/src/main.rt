@@ -5,7 +5,9 @@
 ghost use Rattle.std.specs.Prelude.{◌≡◌, length};
 
 use base::format;
-use book_check::Verdict;
+use base::refusal::{self, Refusal};
+use book::Fault;
+use book_parts::Place;
 use cycle::CYCLE;
 use std::io;
 use std::io::Input;
@@ -21,12 +23,10 @@ fn main(rt: HostRuntime) -> io::Result<()> {
     let mut book_space = blank_book();
     let bodies: &mut [u8] = &mut body_space;
     let book: &mut [u8] = &mut book_space;
-    let mut left = vectors::MOST_RECORDS;
-    while left > 0 {
+    for _ in 0..vectors::MOST_RECORDS {
         if !turn(&rt, &mut *bodies, &mut *book)? {
             return Ok(());
         }
-        left -= 1;
     }
     Ok(())
 }
@@ -108,11 +108,7 @@ fn fill(area: &mut [u8], n: usize, value: u64) -> bool {
     if area.len() < n {
         return false;
     }
-    let mut i: usize = 0;
-    while i < n {
-        area[i] = (value % 256) as u8;
-        i += 1;
-    }
+    area[..n].fill((value % 256) as u8);
     true
 }
 
@@ -143,39 +139,31 @@ fn put_body(body: &mut [u8], seed: u64, code: &[u8]) {
 
 fn put_noise(body: &mut [u8], seed: u64) {
     let mut x = seed;
-    let mut i: usize = 0;
-    while i < body.len() {
+    for byte in body {
         x = (x % 4_294_967_296 * 1_103_515_245 + 12_345) % 4_294_967_296;
-        body[i] = (x / 65_536 % 256) as u8;
-        i += 1;
+        *byte = (x / 65_536 % 256) as u8;
     }
 }
 
 fn put_numbers(body: &mut [u8]) {
-    let mut frame: usize = 0;
-    while frame < 512 {
+    for frame in 0..512 {
         let start = format::MINOR_FRAME * frame;
         set(body, start, format::SYNC_WORD_0);
         set(body, start + 1, format::SYNC_WORD_1);
         set(body, start + 2, format::SYNC_WORD_2);
         set(body, start + format::NUMBER_PLACE, (frame % 128) as u8);
-        frame += 1;
     }
 }
 
 fn put_time(body: &mut [u8], code: &[u8]) {
-    let mut k: usize = 0;
-    while k < code.len() {
-        put_word72(body, 0, k, code[k]);
-        k += 1;
+    for (k, &byte) in code.iter().enumerate() {
+        put_word72(body, 0, k, byte);
     }
 }
 
 fn put_identifier(body: &mut [u8], kind: u8) {
-    let mut k: usize = 0;
-    while k < 8 {
+    for k in 0..8 {
         put_word72(body, kind, k, kind);
-        k += 1;
     }
 }
 
@@ -219,7 +207,10 @@ fn write(
 
 fn put_written(rt: &impl Print, year: u64, bodies: &[u8], book: &mut [u8]) -> io::Result<()> {
     let answer = book_writer::write(year, bodies, &mut *book);
-    let numbers = [answer as u64, vectors::checksum(book)];
+    let numbers = [
+        u64::from(refusal::code(answer)),
+        vectors::checksum(book),
+    ];
     fields(rt, b"write # sum #\n", &numbers)
 }
 
@@ -233,7 +224,7 @@ fn view(rt: &impl Print, area: &[u8], n: usize) -> io::Result<bool> {
 
 fn put_view(rt: &impl Print, bytes: &[u8]) -> io::Result<()> {
     let numbers = [
-        book::view_refusal(bytes) as u64,
+        u64::from(refusal::code(book::accept(bytes))),
         book_view::cycles_of(bytes),
         book_view::year_of(bytes),
     ];
@@ -245,14 +236,14 @@ fn check(rt: &impl Print, area: &[u8], n: usize) -> io::Result<bool> {
         return Ok(false);
     }
     match book_check::check(&area[0..n]) {
-        Verdict::Accepted => put(rt, b"check accepted\n")?,
-        Verdict::Faulty { number, entry } => put_fault(rt, number, entry)?,
+        Ok(()) => put(rt, b"check accepted\n")?,
+        Err(fault) => put_fault(rt, fault)?,
     }
     Ok(true)
 }
 
-fn put_fault(rt: &impl Print, number: u8, entry: u64) -> io::Result<()> {
-    let numbers = [number as u64, entry];
+fn put_fault(rt: &impl Print, fault: Fault) -> io::Result<()> {
+    let numbers = [u64::from(fault.refusal.number()), fault.entry];
     fields(rt, b"check # entry #\n", &numbers)
 }
 
@@ -265,26 +256,31 @@ fn parts(rt: &impl Print, area: &[u8], n: usize, i: u64) -> io::Result<bool> {
     Ok(true)
 }
 
-// By the slice, with the places.
+// By the slice, with the places; a part that is refused is an empty one at 0.
 fn put_parts(rt: &impl Print, bytes: &[u8], i: u64) -> io::Result<()> {
-    field(rt, b"part ", book_parts::part_refusal(bytes, i) as u64)?;
-    field(
-        rt,
-        b" entry ",
-        book_parts::entry_place(bytes, i).start as u64,
-    )?;
-    put_entry(rt, book_parts::entry(bytes, i))?;
-    field(rt, b" body ", book_parts::body_place(bytes, i).start as u64)?;
-    put_body_sum(rt, book_parts::body(bytes, i))
+    let place = book_parts::entry_place(bytes, i);
+    field(rt, b"part ", u64::from(refusal::code(place)))?;
+    field(rt, b" entry ", start_of(place))?;
+    put_entry(rt, book_parts::entry(bytes, i).unwrap_or(&bytes[..0]))?;
+    field(rt, b" body ", start_of(book_parts::body_place(bytes, i)))?;
+    put_body_sum(rt, book_parts::body(bytes, i).unwrap_or(&bytes[..0]))
+}
+
+fn start_of(place: Result<Place, Refusal>) -> u64 {
+    match place {
+        Ok(p) => p.start as u64,
+        Err(_) => 0,
+    }
 }
 
 // Through a view.
 fn put_viewed(rt: &impl Print, bytes: &[u8], i: u64) -> io::Result<()> {
-    field(rt, b"view ", book_view::part_refusal_of(bytes, i) as u64)?;
+    let entry = book_view::entry_of(bytes, i);
+    field(rt, b"view ", u64::from(refusal::code(entry)))?;
     put(rt, b" entry")?;
-    put_entry(rt, book_view::entry_of(bytes, i))?;
+    put_entry(rt, entry.unwrap_or(&bytes[..0]))?;
     put(rt, b" body")?;
-    put_body_sum(rt, book_view::body_of(bytes, i))
+    put_body_sum(rt, book_view::body_of(bytes, i).unwrap_or(&bytes[..0]))
 }
 
 fn put_entry(rt: &impl Print, entry: &[u8]) -> io::Result<()> {

@@ -1,8 +1,5 @@
 -- What a view holds, and the parts that are handed out through it. Assumes nothing.
-use mathlib.Core.Path.{◌≡◌, refl, sym, ap, ◌∙◌}
-use mathlib.Core.Bool.{Bool, true, false, cond}
-use mathlib.Core.List.{List, []}
-use Prim.Native.Nat.{ℕ}
+use Rattle.std.proofs.Common.{◌≡◌, refl, sym, ap, ◌∙◌, Bool, true, false, cond, List, [], ℕ, Result, Ok, Err}
 use native.Mathlib.Omega.{arith}
 use lib.Dec.{eqb}
 use lib.ListN.{length, take}
@@ -10,11 +7,13 @@ use lib.Seq.{take-length}
 use denote.Ref.{Bor}
 use borrow.Author.Tests.{eq-eqb, ne_eqb}
 use borrow.Rule.Slice.Shared.{by_byte}
+use Rattle.base.specs.declared.refusal.Refusal.{Refusal}
+use Rattle.base.specs.Refusals.{number_of}
 use Rattle.book_parts.specs.declared.Place.{Place}
 use Rattle.book.specs.Layout.{bytes_at}
 use Rattle.book.specs.Faults.{view_refusal}
-use Rattle.book_parts.specs.Parts.{place, nowhere, IsPart}
-use Rattle.book_view.specs.Held.{held_place, held_of}
+use Rattle.book_parts.specs.Parts.{place, IsPart, HandsOut}
+use Rattle.book_view.specs.Held.{nowhere, held_place, held_of}
 
 -- ---- what is held
 pub all_held : (b : List ℕ) → view_refusal b ≡ 0 → held_place b ≡ place 0 (length b)
@@ -58,22 +57,28 @@ starts_at b = go (eqb (view_refusal b) 0)
 pub now-held : (w s : Bor (List ℕ)) → IsPart w s (held_place s.now) → w.now ≡ held_of s.now
 now-held w s h = h.contents_are ∙ held-is s.now
 
--- a part of what is held, whose place is nowhere where nothing is, is a part of the slice
-module _ (P : List ℕ → Place) (none : P [] ≡ nowhere) where
-  same_bytes : (b : List ℕ) → bytes_at (P (held_of b)).start (P (held_of b)).length (held_of b) ≡ bytes_at (P (held_of b)).start (P (held_of b)).length b
+-- a part of what is held, which has no place where nothing is held, is a part of the slice
+module _ (P : List ℕ → Result Place Refusal) (why : Refusal) (none : P [] ≡ Err why) where
+  same_bytes : (b : List ℕ) (p : Place) → P (held_of b) ≡ Ok p → bytes_at p.start p.length (held_of b) ≡ bytes_at p.start p.length b
   unfolding held_of
-  same_bytes b = go (eqb (view_refusal b) 0)
+  same_bytes b p = go (eqb (view_refusal b) 0)
     where
-      go : (t : Bool) → let h = cond t b [] in bytes_at (P h).start (P h).length h ≡ bytes_at (P h).start (P h).length b
-      go true = refl
-      go false = rw none
+      go : (t : Bool) → P (cond t b []) ≡ Ok p → bytes_at p.start p.length (cond t b []) ≡ bytes_at p.start p.length b
+      go true = λ e. refl
+      go false = λ e. cc
 
-  pub part-through : (r w s : Bor (List ℕ)) → IsPart w s (held_place s.now) → IsPart r w (P w.now) → IsPart r s (P (held_of s.now))
-  part-through r w s h e =
-      let is = now-held w s h in
-      let start = starts_at s.now in
-      record {
-        contents_are = e.contents_are ∙ ap (λ (l : List ℕ). bytes_at (P l).start (P l).length l) is ∙ same_bytes s.now;
-        block = e.block ∙ h.block;
-        offset = let a = e.offset in let b = h.offset in let c = ap (λ (l : List ℕ). (P l).start) is in omega (arith, a, b, c);
-      }
+  pub part-through : (r : Result (Bor (List ℕ)) Refusal) (w s : Bor (List ℕ)) → IsPart w s (held_place s.now) → HandsOut r w (P w.now)
+      → HandsOut r s (P (held_of s.now))
+  part-through r w s h e = rw (now-held w s h) at (go r (P w.now) (ap P (sym (now-held w s h))) e)
+    where
+      go : (r : Result (Bor (List ℕ)) Refusal) (p : Result Place Refusal) → P (held_of s.now) ≡ p → HandsOut r w p → HandsOut r s p
+      go (Err f) (Err g) is e = e
+      go (Err f) (Ok p) is e = e
+      go (Ok r) (Err g) is e = e
+      go (Ok r) (Ok p) is e =
+          record {
+            contents_are =
+                e.contents_are ∙ ap (λ (l : List ℕ). bytes_at p.start p.length l) (now-held w s h) ∙ same_bytes s.now p is;
+            block = e.block ∙ h.block;
+            offset = let a = e.offset in let b = h.offset in let start = starts_at s.now in omega (arith, a, b, start);
+          }

@@ -2,7 +2,11 @@
 use Rattle.std.specs.Prelude.{cond, List, [], ℕ, eqb, length}
 use Rattle.book_parts.specs.declared.Place.{Place}
 use Rattle.book.specs.Faults.{view_refusal}
-use Rattle.book_parts.specs.Parts.{place, nowhere}
+use Rattle.book_parts.specs.Parts.{place}
+
+-- nothing
+abbrev pub nowhere : Place
+nowhere = place 0 0
 
 -- the book, from its first byte to its last; nothing where it is refused
 unfoldable pub held_place : List ℕ → Place

@@ -1,12 +1,15 @@
-// A view of a book (paper 02, request 7): it remembers the lent bytes and hands out entry i and body i as parts of them. A refused book's
-// view holds nothing. The functions that have a view stand in this crate alone: each takes it apart and calls the function of `book`
-// on the slice. Callers with a slice and a number use `entry_of`, `body_of` and `part_refusal_of`, whose contracts say nothing of a view.
+// A view of a book (paper 02, request 7): it remembers the lent bytes and hands out entry i and body
+// i as parts of them. A refused book's view holds nothing. The functions that have a view stand in
+// this crate alone: each takes it apart and calls the function of `book` on the slice. Callers with
+// a slice and a number use `entry_of` and `body_of`, whose contracts say nothing of a view.
 #![tactic(auto)]
 
 ghost use Rattle.std.specs.Prelude.{◌≡◌};
 ghost use Rattle.book.specs.Header.{count_of, year_of};
-ghost use Rattle.book_parts.specs.Parts.{part_refusal, entry_place, body_place, IsPart};
+ghost use Rattle.book_parts.specs.Parts.{entry_place, body_place, HandsOut, IsPart};
 ghost use Rattle.book_view.specs.Held.{held_of, held_place};
+
+use base::refusal::Refusal;
 
 // The bytes that it remembers.
 #[derive(Clone, Copy)]
@@ -14,7 +17,8 @@ pub struct Book<'a> {
     pub bytes: &'a [u8],
 }
 
-// A view of the bytes. `book::view_refusal` tells whether it holds them: 13, 16, 17, 18 or 19, and it holds nothing.
+// A view of the bytes. `book::accept` tells whether it holds them: 13, 16, 17, 18 or 19, and it
+// holds nothing.
 pub fn view<'a>(bytes: &'a [u8]) -> Book<'a>
     ensures { IsPart result.bytes bytes.entry (held_place bytes.now) }
 {
@@ -25,75 +29,68 @@ pub fn view<'a>(bytes: &'a [u8]) -> Book<'a>
 fn held(bytes: &[u8]) -> &[u8]
     ensures { IsPart result bytes.entry (held_place bytes.now) }
 {
-    if book::view_refusal(bytes) == 0 {
-        return bytes;
+    match book::accept(bytes) {
+        Ok(()) => bytes,
+        Err(_) => &bytes[0..0],
     }
-    &bytes[0..0]
 }
 
-// The 12 bytes of entry i; an empty part where it is refused.
-pub fn entry<'a>(book: Book<'a>, i: u64) -> &'a [u8]
-    ensures { IsPart result book.entry.bytes (entry_place book.entry.bytes.now i) }
-{
-    book_parts::entry(book.bytes, i)
-}
+impl<'a> Book<'a> {
+    // The 12 bytes of entry i. Refused 16: the view holds no book. Refused 20: no entry i.
+    pub fn entry(self, i: u64) -> Result<&'a [u8], Refusal>
+        ensures { HandsOut result self.entry.bytes (entry_place self.entry.bytes.now i) }
+    {
+        book_parts::entry(self.bytes, i)
+    }
 
-// The 65,536 bytes of body i; an empty part where it is refused.
-pub fn body<'a>(book: Book<'a>, i: u64) -> &'a [u8]
-    ensures { IsPart result book.entry.bytes (body_place book.entry.bytes.now i) }
-{
-    book_parts::body(book.bytes, i)
-}
+    // The 65,536 bytes of body i. Refused as entry i is.
+    pub fn body(self, i: u64) -> Result<&'a [u8], Refusal>
+        ensures { HandsOut result self.entry.bytes (body_place self.entry.bytes.now i) }
+    {
+        book_parts::body(self.bytes, i)
+    }
 
-// 0, or why `entry` and `body` hand out an empty part. 16: the view holds no book. 20: no entry i.
-pub fn part_refusal<'a>(book: Book<'a>, i: u64) -> u8
-    ensures { result ≡ part_refusal book.entry.bytes.now i }
-{
-    book_parts::part_refusal(book.bytes, i)
-}
+    // The number of cycles; 0 where the view holds nothing.
+    pub fn cycles(self) -> u64
+        ensures { result ≡ count_of self.entry.bytes.now }
+    {
+        book::cycles(self.bytes)
+    }
 
-// The number of cycles; 0 where the view holds nothing.
-pub fn cycles<'a>(book: Book<'a>) -> u64
-    ensures { result ≡ count_of book.entry.bytes.now }
-{
-    book::cycles(book.bytes)
-}
-
-// The year; 0 where the view holds nothing.
-pub fn year<'a>(book: Book<'a>) -> u64
-    ensures { result ≡ year_of book.entry.bytes.now }
-{
-    book::year(book.bytes)
+    // The year; 0 where the view holds nothing.
+    pub fn year(self) -> u64
+        ensures { result ≡ year_of self.entry.bytes.now }
+    {
+        book::year(self.bytes)
+    }
 }
 
 // ---- through a view of the bytes
 
-pub fn entry_of(bytes: &[u8], i: u64) -> &[u8]
-    ensures { IsPart result bytes.entry (entry_place (held_of bytes.now) i) }
+// Entry i of what a view of the bytes holds.
+pub fn entry_of(bytes: &[u8], i: u64) -> Result<&[u8], Refusal>
+    ensures { HandsOut result bytes.entry (entry_place (held_of bytes.now) i) }
 {
-    entry(view(bytes), i)
+    view(bytes).entry(i)
 }
 
-pub fn body_of(bytes: &[u8], i: u64) -> &[u8]
-    ensures { IsPart result bytes.entry (body_place (held_of bytes.now) i) }
+// Body i of what a view of the bytes holds.
+pub fn body_of(bytes: &[u8], i: u64) -> Result<&[u8], Refusal>
+    ensures { HandsOut result bytes.entry (body_place (held_of bytes.now) i) }
 {
-    body(view(bytes), i)
+    view(bytes).body(i)
 }
 
-pub fn part_refusal_of(bytes: &[u8], i: u64) -> u8
-    ensures { result ≡ part_refusal (held_of bytes.now) i }
-{
-    part_refusal(view(bytes), i)
-}
-
+// The number of cycles of what a view of the bytes holds.
 pub fn cycles_of(bytes: &[u8]) -> u64
     ensures { result ≡ count_of (held_of bytes.now) }
 {
-    cycles(view(bytes))
+    view(bytes).cycles()
 }
 
+// The year of what a view of the bytes holds.
 pub fn year_of(bytes: &[u8]) -> u64
     ensures { result ≡ year_of (held_of bytes.now) }
 {
-    year(view(bytes))
+    view(bytes).year()
 }

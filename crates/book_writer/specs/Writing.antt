@@ -1,6 +1,7 @@
 -- What is written for a year and the bodies of cycles end to end, and when it is refused (02, request 7). Definitions only.
 use Rattle.std.specs.Prelude.{not, List, [], ◌∷◌, ◌++◌, ℕ, ◌%◌, eqb, length}
-use Rattle.base.specs.Refusal.{Line, ◌when◌, answered, refusal}
+use Rattle.base.specs.declared.refusal.Refusal.TheVariants.{WrongLength}
+use Rattle.base.specs.Refusals.{Line, ◌when◌, answered, refusal}
 use Rattle.base.specs.Rows.{rows}
 use Rattle.cycle.specs.Cycle.{cycle_length}
 use Rattle.book.specs.Layout.{book_length, book}
@@ -13,7 +14,8 @@ bodies_in bodies = rows cycle_length bodies
 -- 2: no whole number of bodies, or a buffer that does not fit them
 abbrev pub length_lines : List ℕ → List ℕ → List Line
 length_lines bodies out =
-    2 when not (eqb (length bodies % cycle_length) 0) ∷ 2 when not (eqb (length out) (book_length (length (bodies_in bodies)))) ∷ []
+    WrongLength when not (eqb (length bodies % cycle_length) 0)
+    ∷ WrongLength when not (eqb (length out) (book_length (length (bodies_in bodies)))) ∷ []
 
 -- then the faults of such a book
 abbrev pub write_lines : ℕ → List ℕ → List ℕ → List Line

@@ -3,38 +3,37 @@
 
 ghost use Rattle.std.specs.Prelude.{◌≡◌, ◌++◌, ◌+◌, ◌*◌, ◌≤◌, ◌<◌, eqb, length, take, drop};
 ghost use Rattle.base.specs.Numbers.{bytes_of};
-ghost use Rattle.base.specs.Ranges.{lowest, joined};
-ghost use Rattle.base.specs.Refusal.{refusal as refusal_of};
+ghost use Rattle.base.specs.Ranges.{joined};
+ghost use Rattle.base.specs.Refusals.{permitted};
 ghost use Rattle.cycle.specs.Cycle.{instant_of};
-ghost use Rattle.book.specs.Layout.{body_start, book_length, entry, book};
+ghost use Rattle.book.specs.Layout.{book_length, entry, book};
 ghost use Rattle.book.specs.Faults.{contents_of, faults as faultsOf, lines_of};
+ghost use Rattle.book.specs.Sought.{first_such};
 ghost use Rattle.book_writer.specs.Writing.{bodies_in};
 ghost use Rattle.book_writer.specs.Sought.{row_instant, falling_row};
-ghost use Rattle.book_writer.specs.Promise.{WritePromise};
+ghost use Rattle.book_writer.specs.Promise.{WriteAnswers};
 
-use base::{big_endian, refusal};
+use base::big_endian;
+use base::refusal::Refusal;
 use book::{ENTRY, ENTRY_AND_BODY, HEADER, MOST_CYCLES};
 use cycle::CYCLE;
 
-// Writes the book of the year and the cycles whose bodies these are. Refused 2: no whole number of bodies, or `out` does not fit them.
-// Refused 13: the year. Refused 16: more than 255 cycles. Refused 17: a body is no cycle of the year. Refused 18: an instant does not rise. The
-// answer is the number of the refusal, 0 for none; a refusal writes nothing.
-pub fn write(year: u64, bodies: &[u8], out: &mut [u8]) -> u8
-    ensures { WritePromise year bodies.now out.old out.new result }
+// Writes the book of the year and the cycles whose bodies these are. Refused 2: no whole number of
+// bodies, or `out` does not fit them. Refused 13: the year. Refused 16: more than 255 cycles. Refused
+// 17: a body is no cycle of the year. Refused 18: an instant does not rise. A refusal writes nothing.
+pub fn write(year: u64, bodies: &[u8], out: &mut [u8]) -> Result<(), Refusal>
+    ensures { WriteAnswers year bodies.now out.old out.new result }
 {
     if bodies.len() % CYCLE != 0 {
-        return refusal::WRONG_LENGTH;
+        return Err(Refusal::WrongLength);
     }
     let n = bodies.len() / CYCLE;
     if !fits(n, out.len()) {
-        return refusal::WRONG_LENGTH;
+        return Err(Refusal::WrongLength);
     }
-    let number = contents_refusal(year, bodies, n);
-    if number != 0 {
-        return number;
-    }
+    permit_contents(year, bodies, n)?;
     put_book(year, bodies, n, out);
-    0
+    Ok(())
 }
 
 // Whether a book of n cycles is so long, for any n: with no product that could wrap.
@@ -51,23 +50,23 @@ fn fits(n: usize, length: usize) -> bool
 }
 
 // 13, 16, 17 or 18, of the year and the n cycles; 19 cannot come.
-fn contents_refusal(year: u64, bodies: &[u8], n: usize) -> u8
+fn permit_contents(year: u64, bodies: &[u8], n: usize) -> Result<(), Refusal>
     requires { length bodies.now ≡ 65536 * n }
-    ensures { result ≡ refusal_of (lines_of (faultsOf (contents_of year (bodies_in bodies.now)))) }
+    ensures { result ≡ permitted (lines_of (faultsOf (contents_of year (bodies_in bodies.now)))) }
 {
     if !time_code::year::in_span(year) {
-        return refusal::YEAR_OUTSIDE_SPAN;
+        return Err(Refusal::YearOutsideSpan);
     }
     if MOST_CYCLES < n {
-        return refusal::WRONG_BOOK_LENGTH;
+        return Err(Refusal::WrongBookLength);
     }
-    if book::first_bad_body(year, bodies) < n {
-        return refusal::NOT_A_CYCLE;
+    if book::first_bad_body(year, bodies).is_some() {
+        return Err(Refusal::NotACycle);
     }
-    if first_falling(year, bodies, n) < n {
-        return refusal::WRONG_INSTANT;
+    if first_falling(year, bodies, n).is_some() {
+        return Err(Refusal::WrongInstant);
     }
-    0
+    Ok(())
 }
 
 fn instant_in(year: u64, bodies: &[u8], i: usize) -> u64
@@ -89,19 +88,12 @@ fn falls(year: u64, bodies: &[u8], i: usize) -> bool
     false
 }
 
-// The lowest body whose instant does not rise; n where there is none.
-fn first_falling(year: u64, bodies: &[u8], n: usize) -> usize
+// The lowest body whose instant does not rise.
+fn first_falling(year: u64, bodies: &[u8], n: usize) -> Option<usize>
     requires { 65536 * n ≤ length bodies.now }
-    ensures { result ≡ lowest (falling_row year bodies.now) 0 n }
+    ensures { result ≡ first_such (falling_row year bodies.now) n }
 {
-    let mut i: usize = 0;
-    while i < n {
-        if falls(year, bodies, i) {
-            return i;
-        }
-        i += 1;
-    }
-    n
+    (0..n).find(|&i| falls(year, bodies, i))
 }
 
 // ---- the bytes
@@ -129,22 +121,13 @@ fn put_entries(year: u64, bodies: &[u8], n: usize, out: &mut [u8])
     ensures { out.new
         ≡ take 4 out.old ++ (joined (entry year (bodies_in bodies.now)) 0 n ++ drop (4 + 12 * n) out.old) }
 {
-    let mut i: usize = 0;
-    while i < n {
+    for i in 0..n {
         let instant = instant_in(year, bodies, i);
+        let offset = book::body_start(n as u8, i as u8) as u64;
         let start = HEADER + ENTRY * i;
         let end = start + ENTRY;
-        put_entry(instant, body_start(n, i), &mut out[start..end]);
-        i += 1;
+        put_entry(instant, offset, &mut out[start..end]);
     }
-}
-
-// Where body i of n starts.
-fn body_start(n: usize, i: usize) -> u64
-    requires { (n ≤ 255) × (i ≤ n) }
-    ensures { result ≡ body_start n i }
-{
-    (HEADER + ENTRY * n + CYCLE * i) as u64
 }
 
 fn put_entry(instant: u64, offset: u64, out: &mut [u8])

@@ -13,10 +13,10 @@ use borrow.Rule.Slice.PartMut.{mid_of, mid_len}
 use Rattle.base.specs.Ranges.{lowest}
 use Rattle.base.specs.Rows.{row}
 use Rattle.base.proofs.Ranges.{none-holds}
-use Rattle.base.proofs.Refusals.{answered-given, number-alone}
 use Rattle.base.proofs.Rows.{rows-length, rows_at}
 use Rattle.book.specs.Faults.{Contents, contents_of, bad_body, bad_instant, bad_offset, falls, is_sized}
 use Rattle.book.specs.Layout.{book_length}
+use Rattle.book.proofs.Answered.{of_none}
 use Rattle.book_writer.specs.Writing.{bodies_in, write_lines, write_refusal}
 use Rattle.time_code.specs.Calendar.{in_span}
 use Rattle.book_shelf.specs.declared.Shelf.{Shelf}
@@ -66,8 +66,7 @@ module _ (y : ℕ) (bodies : List ℕ) (b : Bound y bodies) where
       let whole : length bodies % 65536 ≡ 0 = ap (λ (n : ℕ). n % 65536) b.length-is ∙ mul-mod_right 65536 b.count in
       let fits : length out ≡ book_length (length (bodies_in bodies)) = rw many room in
       let lines = write_lines y bodies out in
-      sym (number-alone lines)
-      ∙ answered-given (λ n. n) lines 0 (
+      of_none lines (
         ap not (eq-eqb _ 0 whole),
         (
           ap not (eq-eqb _ _ fits),

@@ -37,7 +37,7 @@ fn make(year: u64, bodies: &[u8], out: &mut [u8])
     requires { Writable year bodies.now out.old }
     ensures { MadePromise year bodies.now out.new }
 {
-    book_writer::write(year, bodies, out);
+    book_writer::write(year, bodies, out).unwrap();
 }
 
 // How long the book of so many cycles is; 0 where there is none.

@@ -1,11 +1,10 @@
 // The verdict of a book as a line of text.
-ghost use Rattle.std.specs.Prelude.{◌≡◌, true};
+ghost use Rattle.std.specs.Prelude.{◌≡◌, true, Ok};
 ghost use Rattle.book_check.specs.Checking.{verdict};
-ghost use Rattle.book_check.specs.declared.Verdict.TheVariants.{Accepted};
 ghost use Rattle.command.specs.Text.{Adds};
 ghost use Rattle.pcd_book_check.specs.Verdicts.{verdict_line, verdict_text, fault_text, is_yes};
 
-use book_check::Verdict;
+use book::Fault;
 use command::{ErrorOutput, put_field, put_meaning};
 
 // A path and its verdict.
@@ -16,7 +15,7 @@ const WHOLE_BOOK: u8 = 16;
 
 // Writes the line of a book; true where it is accepted and the line is written.
 pub(crate) fn report(rt: &(impl Print + ErrorOutput), path: &[u8], book: &[u8]) -> bool
-    ensures { result ≡ true → verdict book.now ≡ Accepted }
+    ensures { result ≡ true → verdict book.now ≡ Ok tt }
 {
     let verdict = book_check::check(book);
     let mut space = [0u8; LINE];
@@ -29,26 +28,20 @@ pub(crate) fn report(rt: &(impl Print + ErrorOutput), path: &[u8], book: &[u8]) 
 fn show_line(
     rt: &(impl Print + ErrorOutput),
     path: &[u8],
-    verdict: Verdict,
+    verdict: Result<(), Fault>,
     line: &mut [u8],
 ) -> bool {
     let n = put_line(&mut *line, path, verdict);
     command::show(rt, b"pcd-book-check", &line[..n])
 }
 
-fn is_yes(verdict: Verdict) -> bool
+fn is_yes(verdict: Result<(), Fault>) -> bool
     ensures { result ≡ is_yes verdict }
 {
-    match verdict {
-        Verdict::Accepted => true,
-        Verdict::Faulty {
-            number: _,
-            entry: _,
-        } => false,
-    }
+    verdict.is_ok()
 }
 
-fn put_line(out: &mut [u8], path: &[u8], verdict: Verdict) -> usize
+fn put_line(out: &mut [u8], path: &[u8], verdict: Result<(), Fault>) -> usize
     ensures { Adds out.old 0 (verdict_line path.now verdict) out.new result }
 {
     let named = command::put_joined(&mut *out, 0, path, b": ");
@@ -56,16 +49,12 @@ fn put_line(out: &mut [u8], path: &[u8], verdict: Verdict) -> usize
     command::put(out, told, b"\n")
 }
 
-fn put_verdict(out: &mut [u8], at: usize, verdict: Verdict) -> usize
+fn put_verdict(out: &mut [u8], at: usize, verdict: Result<(), Fault>) -> usize
     ensures { Adds out.old at (verdict_text verdict) out.new result }
 {
     match verdict {
-        Verdict::Accepted => {
-            return command::put(out, at, b"yes");
-        }
-        Verdict::Faulty { number, entry } => {
-            return put_fault(out, at, number, entry);
-        }
+        Ok(()) => command::put(out, at, b"yes"),
+        Err(fault) => put_fault(out, at, fault.refusal.number(), fault.entry),
     }
 }
 

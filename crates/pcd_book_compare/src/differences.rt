@@ -3,7 +3,6 @@ ghost use Rattle.std.specs.Prelude.{◌≡◌, length};
 ghost use Rattle.command.specs.Text.{Adds};
 ghost use Rattle.pcd_book_compare.specs.Lines.{line_text};
 
-use book_compare::Compared;
 use command::{ErrorOutput, put, put_field};
 
 const LINE: usize = 256;
@@ -30,12 +29,10 @@ fn compared(rt: &(impl Print + ErrorOutput), first: &[u8], second: &[u8], table:
     ensures { result ≡ 0 → first.now ≡ second.now }
 {
     match book_compare::compare(first, second, &mut *table) {
-        Compared::Lines(n) => {
-            return show_lines(rt, table, n);
-        }
-        Compared::Refused(number) => {
-            command::refuse(rt, b"pcd-book-compare", b"the books", number);
-            return REFUSED;
+        Ok(n) => show_lines(rt, table, n),
+        Err(refusal) => {
+            command::refuse(rt, b"pcd-book-compare", b"the books", refusal.number());
+            REFUSED
         }
     }
 }

@@ -19,9 +19,8 @@ pub(crate) fn report(
     book: &[u8],
     wanted: u64,
 ) -> bool {
-    let number = book::view_refusal(book);
-    if number != 0 {
-        command::refuse(rt, b"pcd-find", path, number);
+    if let Err(refusal) = book::accept(book) {
+        command::refuse(rt, b"pcd-find", path, refusal.number());
         return false;
     }
     let mut space = [0u64; MOST_CYCLES];

@@ -1,43 +1,30 @@
 -- `book_parts::body_place` meets its contract: where it is not refused, the book has that body. Assumes nothing.
-use mathlib.Core.Path.{sym, ◌∙◌}
-use Prim.Native.Nat.{◌≤◌}
+use Rattle.std.proofs.Common.{sym, ap, ◌∙◌, ◌≡◌, Err, ℕ, rules}
 use native.Mathlib.Omega.{arith}
-use Rattle.book.proofs.Headers.{count-is}
-use Rattle.book_parts.proofs.Places.{There, there, body_refused, body-there}
+use Rattle.book.specs.Layout.{body_start}
+use Rattle.book_parts.proofs.Places.{There, there, counted, body_refused, body-there}
 use Rattle.book_parts.proofs.body_place.Goals as goal
-use Rattle.book_parts.proofs.body_place.Goals.{After-cycles-n, Else-part_refusal-ne0}
 
-found : (e : Else-part_refusal-ne0) → let a = e.args in There a.bytes.now a.i
-found e = there _ _ (sym e.part_refusal.ensures ∙ e.if-part_refusal-ne0.false)
+pub returns-in_err-n : goal.returns-in_err-n
+returns-in_err-n c =
+    let same : c.from_residual.result ≡ Err c.in_err-n.field-0.0 = search rules in
+    rw same (body_refused _ _ _ (sym c.cycles_past.ensures ∙ c.in_err-n.was))
 
-pub returns-then-part_refusal-ne0 : goal.returns-then-part_refusal-ne0
-returns-then-part_refusal-ne0 c = body_refused _ _ (λ e. c.if-part_refusal-ne0.true (c.part_refusal.ensures ∙ e))
-
--- as many cycles as the book says, 255 at most
-counted : (c : After-cycles-n) → c.cycles-n.result ≤ 255
-counted c =
-    let t = there c.args.bytes.now c.args.i (sym c.part_refusal.ensures ∙ c.if-part_refusal-ne0.false) in
-    let s = t.size in
-    omega (arith, count-is _ t.tested _ c.cycles-n.ensures)
-
-pub overflow_mul-result : goal.overflow_mul-result
-overflow_mul-result c = let n = counted c in record { fits = omega arith }
-
-pub overflow_add-result : goal.overflow_add-result
-overflow_add-result c = let n = counted c in record { fits = omega arith }
-
-pub overflow_mul-result-2 : goal.overflow_mul-result-2
-overflow_mul-result-2 c =
-    let t = found (goal.at.overflow_mul-result-2 c).Else-part_refusal-ne0 in
-    let s = t.size in
+pub overflow_cast-n : goal.overflow_cast-n
+overflow_cast-n c =
+    let is = sym c.cycles_past.ensures ∙ c.in_ok-n.was in
+    let n = counted _ _ _ is in
+    let s = (there _ _ _ is).size in
     record { fits = omega arith }
 
-pub overflow_add-result-2 : goal.overflow_add-result-2
-overflow_add-result-2 c =
-    let n = counted c in
-    let t = found (goal.at.overflow_add-result-2 c).Else-part_refusal-ne0 in
+pub overflow_cast-i : goal.overflow_cast-i
+overflow_cast-i c =
+    let t = there _ _ _ (sym c.cycles_past.ensures ∙ c.in_ok-n.was) in
     let s = t.size in
+    let l = t.below in
     record { fits = omega arith }
 
 pub returns : goal.returns
-returns c = let t = found (goal.at.returns c).Else-part_refusal-ne0 in body-there _ _ t _ (count-is _ t.tested _ c.cycles-n.ensures)
+returns c =
+    let is = sym c.cycles_past.ensures ∙ c.in_ok-n.was in
+    body-there _ _ (there _ _ _ is) _ (c.body_start.ensures ∙ ap (λ (n : ℕ). body_start n c.args.i) (sym (counted _ _ _ is)))

@@ -13,7 +13,7 @@ use Rattle.book_writer.proofs.put_entries.Goals as goal
 
 pub loop-i-init : goal.loop-i-init
 loop-i-init c =
-    (omega arith, refl, holds-none c.args.year c.args.bodies.now c.args.n c.requires.1 c.args.out.now)
+    (refl, holds-none c.args.year c.args.bodies.now c.args.n c.requires.1 c.args.out.now)
 
 pub instant_in-instant-requires : goal.instant_in-instant-requires
 instant_in-instant-requires c = let p = c.requires in omega arith
@@ -29,19 +29,18 @@ loop-i-preserved c =
     let bodies = c.args.bodies.now in
     let n = c.args.n in
     let i = c.loop-i.i in
-    let is = entry-is y bodies n c.requires.1 i _ _ c.loop-i-test.true c.instant_in-instant.ensures c.body_start.ensures in
+    let is = entry-is y bodies n c.requires.1 i _ _ c.loop-i-test.true c.instant_in-instant.ensures c.body_start-offset.ensures in
     let entry = c.put_entry.ensures ∙ is in (
-      omega arith,
       search rules,
-      holds_more y bodies n c.requires.1 c.args.out.now i c.loop-i.out _ c.requires.2 c.loop-i-test.true c.loop-i.invariant.2 entry,
+      holds_more y bodies n c.requires.1 c.args.out.now i c.loop-i.out _ c.requires.2 c.loop-i-test.true c.loop-i.invariant.1 entry,
     )
 
 pub shape_of-out : goal.shape_of-out
-shape_of-out c = c.loop-i.invariant.1
+shape_of-out c = c.loop-i.invariant.0
 
 pub returns : goal.returns
 returns c =
     let old = c.args.out.now in
     let E = joined (entry c.args.year (bodies_in c.args.bodies.now)) 0 in
     let all : c.loop-i.i ≡ c.args.n = omega arith in
-    c.loop-i.invariant.2 ∙ ap (λ (m : ℕ). take 4 old ++ (E m ++ drop (4 + 12 * m) old)) all
+    c.loop-i.invariant.1 ∙ ap (λ (m : ℕ). take 4 old ++ (E m ++ drop (4 + 12 * m) old)) all

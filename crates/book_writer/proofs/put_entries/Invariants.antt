@@ -9,9 +9,5 @@ use Rattle.book_writer.specs.Writing.{bodies_in}
 use Rattle.book_writer.proofs.put_entries.Given as goal
 
 abbrev pub invariant-loop-i : goal.invariant-loop-i
-invariant-loop-i l = (l.i ≤ l.n)
-    × (length l.out ≡ length l.initial.out)
+invariant-loop-i l = (length l.out ≡ length l.initial.out)
     × (l.out ≡ take 4 l.initial.out ++ (joined (entry l.year (bodies_in l.bodies)) 0 l.i ++ drop (4 + 12 * l.i) l.initial.out))
-
-abbrev pub decreases-loop-i : goal.decreases-loop-i
-decreases-loop-i l = l.n - l.i

@@ -1,14 +1,10 @@
--- `book::header::cycles` meets its contract: it is read where the book has its size. Assumes nothing.
-use mathlib.Core.Path.{sym, ◌∙◌}
-use Rattle.book.proofs.Headers.{has_header, count-there, count-refused}
+-- `book::header::cycles` meets its contract: it is what the header says. Assumes nothing.
+use Rattle.std.proofs.Common.{sym, ◌∙◌}
+use Rattle.book.proofs.Headers.{count_given, count_none}
 use Rattle.book.proofs.header.cycles.Goals as goal
 
-pub cycles_said-requires : goal.cycles_said-requires
-cycles_said-requires c = has_header c.args.bytes.now (sym c.has_size.ensures ∙ c.if-has_size.true)
+pub returns-in-Ok : goal.returns-in-Ok
+returns-in-Ok c = count_given c.args.bytes.now _ (sym c.read_header.ensures.answer ∙ c.in-Ok.is)
 
-pub returns-then-has_size : goal.returns-then-has_size
-returns-then-has_size c =
-    c.cycles_said.ensures.0 ∙ count-there c.args.bytes.now (sym c.has_size.ensures ∙ c.if-has_size.true)
-
-pub returns : goal.returns
-returns c = count-refused c.args.bytes.now (sym c.has_size.ensures ∙ c.if-has_size.false)
+pub returns-in-Err : goal.returns-in-Err
+returns-in-Err c = count_none c.args.bytes.now _ (sym c.read_header.ensures.answer ∙ c.in-Err.is)

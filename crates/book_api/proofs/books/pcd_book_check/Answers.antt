@@ -2,8 +2,8 @@
 use Rattle.book_api.proofs.BookCrossed.{check_crossed}
 use Rattle.book_api.proofs.books.pcd_book_check.Goals as goal
 
-pub returns-in-Accepted : goal.returns-in-Accepted
-returns-in-Accepted c = check_crossed _ _ _ c.check.ensures c.in-Accepted.is
+pub returns-in-Ok : goal.returns-in-Ok
+returns-in-Ok c = check_crossed _ _ _ c.check.ensures c.in-Ok.is
 
-pub returns-in-Faulty : goal.returns-in-Faulty
-returns-in-Faulty c = check_crossed _ _ _ c.check.ensures c.in-Faulty.is
+pub returns-in-Err : goal.returns-in-Err
+returns-in-Err c = rw c.number.ensures (check_crossed _ _ _ c.check.ensures c.in-Err.is)

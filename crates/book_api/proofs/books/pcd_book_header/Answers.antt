@@ -1,11 +1,9 @@
--- `book_api::books::pcd_book_header` meets its contract. Assumes nothing.
-use Rattle.book_api.proofs.BookCrossed.{header_refused, header_told}
+-- `book_api::books::pcd_book_header` meets its contract: each arm is a case of the answer. Assumes nothing.
+use Rattle.book_api.proofs.BookCrossed.{header_crossed}
 use Rattle.book_api.proofs.books.pcd_book_header.Goals as goal
 
-pub returns-then-number-ne0 : goal.returns-then-number-ne0
-returns-then-number-ne0 c = header_refused c.args.book.now _ _ c.header_refusal-number.ensures c.if-number-ne0.true
+pub returns-in-Ok : goal.returns-in-Ok
+returns-in-Ok c = header_crossed c.args.book.now _ _ _ c.read_header.ensures c.in-Ok.is
 
-pub returns : goal.returns
-returns c =
-    header_told c.args.book.now _ _ _ _ c.header_refusal-number.ensures c.if-number-ne0.false
-    c.cycles.ensures c.year.ensures
+pub returns-in-Err : goal.returns-in-Err
+returns-in-Err c = rw c.number.ensures (header_crossed c.args.book.now _ _ _ c.read_header.ensures c.in-Err.is)

@@ -1,12 +1,11 @@
 -- `pcd_book_compare::differences::compared` meets its contract: no line comes of equal books alone. Assumes nothing.
-use mathlib.Core.Path.{ap}
+use Rattle.std.proofs.Common.{ap, Ok}
 use native.Mathlib.Omega.{arith}
-use Rattle.book_compare.specs.declared.Compared.TheVariants.{Lines}
 use Rattle.pcd_book_compare.proofs.differences.compared.Goals as goal
 
-pub returns-in-Lines : goal.returns-in-Lines
-returns-in-Lines g c =
-    λ none. (c.in-Lines.ensures.none_same (ap Lines (c.show_lines.ensures none))).equal
+pub returns-in-Ok : goal.returns-in-Ok
+returns-in-Ok g c =
+    λ none. (c.in-Ok.ensures.none_same (ap Ok (c.show_lines.ensures none))).equal
 
-pub returns-in-Refused : goal.returns-in-Refused
-returns-in-Refused g c = λ none. absurd (omega arith)
+pub returns-in-Err : goal.returns-in-Err
+returns-in-Err g c = λ none. absurd (omega arith)

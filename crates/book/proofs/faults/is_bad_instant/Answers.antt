@@ -1,6 +1,6 @@
--- `book::faults::bad_instant` meets its contract: the stored instant against the body's, and then against the one stored before. Assumes nothing.
+-- `book::faults::is_bad_instant` meets its contract: the stored instant against the body's, and then against the one stored before. Assumes nothing.
 use Rattle.book.proofs.Tests.{other-instant, later-instant, first-instant}
-use Rattle.book.proofs.faults.bad_instant.Goals as goal
+use Rattle.book.proofs.faults.is_bad_instant.Goals as goal
 
 pub returns-then-instant : goal.returns-then-instant
 returns-then-instant c =
