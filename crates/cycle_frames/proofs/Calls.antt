@@ -1,18 +1,16 @@
 -- Lists of calls: what is held and what has been given are together the cycles of the frames so far, whatever follows. Assumes nothing.
-use mathlib.Core.Path.{◌≡◌, refl, sym, ap, ◌∙◌}
-use mathlib.Core.Bool.{Bool, true, false, cond, not}
-use mathlib.Core.List.{List, [], ◌∷◌, ◌++◌, append_assoc, append-nil}
-use Prim.Native.Nat.{ℕ, suc, ◌+◌, ◌*◌, ◌≤◌, ◌<◌}
+use Rattle.std.proofs.Common.{◌≡◌, refl, sym, ap, ◌∙◌, Bool, true, false, cond, not, List, [], ◌∷◌, ◌++◌, ℕ, suc, ◌+◌, ◌*◌, ◌≤◌, ◌<◌, Ok}
+use mathlib.Core.List.{append_assoc, append-nil}
 use native.Mathlib.Omega.{arith}
 use borrow.Author.Tests.{eqb-true, eqb-false, not-false, ne_eqb}
 use lib.Dec.{eqb}
 use lib.ListN.{length, take, length-append}
-use Rattle.base.proofs.Refusals.{NoneHolds}
+use Rattle.base.proofs.Lines.{NoneHolds}
 use Rattle.cycle.specs.Cycle.{is_frame, is_cycle}
 use Rattle.frame_store.specs.Slots.{start, with_frame}
 use Rattle.cycle_frames.specs.declared.Brought.{Brought}
 use Rattle.cycle_frames.specs.Cycles.{joined_frames, cycles_in}
-use Rattle.cycle_frames.specs.Gathering.{held_in, next_lines, next_refusal, kept_as, all_left, next_of, area_after, cycle_given}
+use Rattle.cycle_frames.specs.Gathering.{held_in, next_lines, next_refusal, kept_as, all_left, brought, next_of, area_after, cycle_given}
 use Rattle.cycle_frames.specs.Gathering.{Taken, begun, taken, moved}
 use Rattle.cycle_frames.specs.Promise.{Gathered}
 use Rattle.cycle_frames.proofs.Frames.{Held, none, one, two, three, misfit, begins-none, made-whole, held-gives_none, none-held}
@@ -77,10 +75,14 @@ module _ (area : List ℕ) (bits : ℕ) (f : List ℕ) where
   accepted-where size long few = accepted (rw (size, long, ne_eqb (held_in bits) 4 (λ e. omega arith)))
 
   module _ (y n : ℕ) (a : Accepted) (is : held_in bits ≡ n) where
-    -- the frame follows those that are held
-    pub next-follows : is_frame y n f ≡ true → next_of y area bits f ≡ kept_as n 0
+    pub next-taken : next_of y area bits f ≡ Ok (brought y bits f)
     unfolding next_of
-    next-follows e = rw (a.quiet.0, a.quiet.1.0, a.quiet.1.1.0, is, e)
+    next-taken = rw (a.quiet.0, a.quiet.1.0, a.quiet.1.1.0)
+
+    -- the frame follows those that are held
+    pub next-follows : is_frame y n f ≡ true → brought y bits f ≡ kept_as n 0
+    unfolding brought
+    next-follows e = rw (is, e)
 
     pub area_follows : is_frame y n f ≡ true → area_after y area bits f ≡ with_frame n f area
     unfolding area_after
@@ -88,18 +90,18 @@ module _ (area : List ℕ) (bits : ℕ) (f : List ℕ) where
 
     module _ (other : is_frame y n f ≡ false) where
       -- it begins a cycle
-      pub next-begins : is_frame y 0 f ≡ true → next_of y area bits f ≡ kept_as 0 n
-      unfolding next_of
-      next-begins e = rw (a.quiet.0, a.quiet.1.0, a.quiet.1.1.0, is, other, e)
+      pub next-begins : is_frame y 0 f ≡ true → brought y bits f ≡ kept_as 0 n
+      unfolding brought
+      next-begins e = rw (is, other, e)
 
       pub area_begins : is_frame y 0 f ≡ true → area_after y area bits f ≡ with_frame 0 f area
       unfolding area_after
       area_begins e = rw (a.quiet.0, a.quiet.1.0, a.quiet.1.1.0, is, other, e)
 
       -- it is in none
-      pub next-neither : is_frame y 0 f ≡ false → next_of y area bits f ≡ all_left (n + 1)
-      unfolding next_of
-      next-neither e = rw (a.quiet.0, a.quiet.1.0, a.quiet.1.1.0, is, other, e)
+      pub next-neither : is_frame y 0 f ≡ false → brought y bits f ≡ all_left (n + 1)
+      unfolding brought
+      next-neither e = rw (is, other, e)
 
       pub area_neither : is_frame y 0 f ≡ false → area_after y area bits f ≡ area
       unfolding area_after
@@ -237,7 +239,7 @@ module _ (y : ℕ) where
   module _ {frames cycles : List (List ℕ)} {left bits : ℕ} {area : List ℕ} (g : Gathers frames cycles left bits area) (f : List ℕ)
       (e : next_refusal area bits f ≡ 0) where
     abbrev r : Brought
-    r = next_of y area bits f
+    r = brought y bits f
 
     abbrev new : List ℕ
     new = area_after y area bits f
@@ -295,7 +297,7 @@ module _ (y : ℕ) where
       }
 
   pub is_a_cycle : {frames cycles : List (List ℕ)} {left bits : ℕ} {area : List ℕ} → Gathers frames cycles left bits area → (f : List ℕ)
-      → next_refusal area bits f ≡ 0 → (next_of y area bits f).whole ≡ true → is_cycle y (area_after y area bits f) ≡ true
+      → next_refusal area bits f ≡ 0 → (brought y bits f).whole ≡ true → is_cycle y (area_after y area bits f) ≡ true
   is_a_cycle {frames} {cycles} {left} {bits} {area} g f e w = by_kind_lem (is_frame y g.n f) refl (is_frame y 0 f) refl
     where
       a : Accepted area bits f
@@ -309,7 +311,7 @@ module _ (y : ℕ) where
       whole p n (three x b c kx kb kc) bytes k t =
           ap (is_cycle y) (fourth x b c area f bytes a.size a.long) ∙ four-are_a_cycle y x b c f kx kb kc k
 
-      not_whole : (next_of y area bits f).whole ≡ false → is_cycle y (area_after y area bits f) ≡ true
+      not_whole : (brought y bits f).whole ≡ false → is_cycle y (area_after y area bits f) ≡ true
       not_whole h = let b : ◌≡◌ {A = Bool} true false = sym w ∙ h in let z : ◌≡◌ {A = ℕ} 0 1 = cc in absurd (omega arith)
 
       by_kind_lem : (u : Bool) → is_frame y g.n f ≡ u → (v : Bool) → is_frame y 0 f ≡ v → is_cycle y (area_after y area bits f) ≡ true

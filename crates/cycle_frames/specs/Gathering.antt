@@ -1,7 +1,9 @@
 -- One frame after another: what a call answers and leaves, and lists of calls. Definitions only.
-use Rattle.std.specs.Prelude.{◌≡◌, false, cond, not, List, [], ◌∷◌, ◌++◌, ℕ, suc, ◌+◌, ◌-◌, ◌^◌, ◌<◌, eqb, length}
+use Rattle.std.specs.Prelude.{◌≡◌, false, cond, not, List, [], ◌∷◌, ◌++◌, ℕ, suc, ◌+◌, ◌-◌, ◌^◌, ◌<◌, eqb, length, Result, Ok, Err}
 use Rattle.base.specs.Format.{major_frame}
-use Rattle.base.specs.Refusal.{Line, ◌when◌, answered, refusal}
+use Rattle.base.specs.declared.refusal.Refusal.{Refusal}
+use Rattle.base.specs.declared.refusal.Refusal.TheVariants.{WrongLength, BitsBeyondSlots}
+use Rattle.base.specs.Refusals.{Line, ◌when◌, answered, refusal}
 use Rattle.cycle.specs.Cycle.{cycle_length, is_frame}
 use Rattle.frame_store.specs.Slots.{with_frame}
 use Rattle.cycle_frames.specs.declared.Brought.{Brought}
@@ -22,32 +24,32 @@ IsCount n = n < 4
 
 abbrev pub next_lines : List ℕ → ℕ → List ℕ → List Line
 next_lines area bits frame =
-    2 when not (eqb (length area) cycle_length) ∷ 2 when not (eqb (length frame) major_frame) ∷ 25 when eqb (held_in bits) 4 ∷ []
-
-abbrev pub not_taken : ℕ → ℕ → Brought
-not_taken number bits = record { refusal = number; bits = bits; omitted = 0; whole = false }
+    WrongLength when not (eqb (length area) cycle_length) ∷ WrongLength when not (eqb (length frame) major_frame)
+    ∷ BitsBeyondSlots when eqb (held_in bits) 4 ∷ []
 
 -- a frame is held behind n others, the fourth of them making a cycle
 abbrev pub kept_as : ℕ → ℕ → Brought
-kept_as n left = record { refusal = 0; bits = cond (eqb n 3) 0 (bits_of (suc n)); omitted = left; whole = eqb n 3 }
+kept_as n left = record { bits = cond (eqb n 3) 0 (bits_of (suc n)); omitted = left; whole = eqb n 3 }
 
 -- none is held
 abbrev pub all_left : ℕ → Brought
-all_left left = record { refusal = 0; bits = 0; omitted = left; whole = false }
+all_left left = record { bits = 0; omitted = left; whole = false }
 
 -- the frame follows the n that are held, or begins a cycle, or is in none
 abbrev pub by_kind : {A : Type 0} → ℕ → ℕ → List ℕ → A → A → A → A
 by_kind y n frame follows begins neither = cond (is_frame y n frame) follows (cond (is_frame y 0 frame) begins neither)
 
-unfoldable pub next_of : ℕ → List ℕ → ℕ → List ℕ → Brought
-next_of y area bits frame =
-    let n = held_in bits in
-    answered (λ number. not_taken number bits) (next_lines area bits frame) (by_kind y n frame (kept_as n 0) (kept_as 0 n) (all_left (n + 1)))
+-- what a frame that is not refused brings
+unfoldable pub brought : ℕ → ℕ → List ℕ → Brought
+brought y bits frame = let n = held_in bits in by_kind y n frame (kept_as n 0) (kept_as 0 n) (all_left (n + 1))
+
+unfoldable pub next_of : ℕ → List ℕ → ℕ → List ℕ → Result Brought Refusal
+next_of y area bits frame = answered Err (next_lines area bits frame) (Ok (brought y bits frame))
 
 unfoldable pub area_after : ℕ → List ℕ → ℕ → List ℕ → List ℕ
 area_after y area bits frame =
     let n = held_in bits in
-    answered (λ number. area) (next_lines area bits frame) (by_kind y n frame (with_frame n frame area) (with_frame 0 frame area) area)
+    answered (λ r. area) (next_lines area bits frame) (by_kind y n frame (with_frame n frame area) (with_frame 0 frame area) area)
 
 abbrev pub next_refusal : List ℕ → ℕ → List ℕ → ℕ
 next_refusal area bits frame = refusal (next_lines area bits frame)
@@ -64,8 +66,8 @@ pub data Taken (y : ℕ) : List (List ℕ) → List (List ℕ) → ℕ → ℕ �
   begun : (area : List ℕ) → Taken y [] [] 0 0 area
   taken : {frames cycles : List (List ℕ)} {left bits : ℕ} {area : List ℕ} (frame : List ℕ) → next_refusal area bits frame ≡ 0
       → Taken y frames cycles left bits area
-      → Taken y (frames ++ (frame ∷ [])) (cycles ++ cycle_given (next_of y area bits frame) (area_after y area bits frame))
-      (left + (next_of y area bits frame).omitted) (next_of y area bits frame).bits (area_after y area bits frame)
+      → Taken y (frames ++ (frame ∷ [])) (cycles ++ cycle_given (brought y bits frame) (area_after y area bits frame))
+      (left + (brought y bits frame).omitted) (brought y bits frame).bits (area_after y area bits frame)
   -- while no frame is held, another area may serve
   moved : {frames cycles : List (List ℕ)} {left : ℕ} {area : List ℕ} (other : List ℕ) → Taken y frames cycles left 0 area
       → Taken y frames cycles left 0 other

@@ -1,20 +1,20 @@
-// Gathers cycles from major frames as they come: four frames of the kinds 0, 1, 2, 3 in a row are a cycle (paper 02, request 7), and are held in the
-// four slots of a frame store until it is whole (request 12). The caller hands the store's bits on from call to call, and begins with 0; while
-// they are 0, the area may be another one.
+// Gathers cycles from major frames as they come: four frames of the kinds 0, 1, 2, 3 in a row are a
+// cycle (paper 02, request 7), and are held in the four slots of a frame store until it is whole
+// (request 12). The caller hands the store's bits on from call to call, and begins with 0; while they
+// are 0, the area may be another one.
 #![tactic(auto)]
 
-ghost use Rattle.std.specs.Prelude.{◌≡◌, length};
-ghost use Rattle.cycle_frames.specs.Gathering.{held_in, kept_as, not_taken, IsCount};
+ghost use Rattle.std.specs.Prelude.{◌≡◌, length, Ok};
+ghost use Rattle.cycle_frames.specs.Gathering.{held_in, kept_as, IsCount};
 ghost use Rattle.cycle_frames.specs.Promise.{NextPromise};
 ghost use Rattle.frame_store.specs.Slots.{with_frame};
 
 use base::format::MAJOR_FRAME;
-use base::refusal;
+use base::refusal::Refusal;
 
-// What a frame brought; or the number of a refusal, with the bits as they were.
-#[derive(Clone, Copy)]
+// What a frame brought.
+#[derive(Clone, Copy, Debug, PartialEq, Eq)]
 pub struct Brought {
-    pub refusal: u8,
     pub bits: u64,
     // How many frames are now known to be in no cycle: those that were held, the frame itself, or both.
     pub omitted: u64,
@@ -27,20 +27,22 @@ const FRAMES: u64 = 4;
 
 const ALL_SLOTS: u64 = 15;
 
-// Takes the next frame. Where it follows those that are held it is held too; else they are in no cycle, and it begins one or is in none. Refused 2: the
-// area is not 65,536 bytes, or the frame is not 16,384. Refused 25: the bits are not those of the first three slots or fewer. A refusal writes nothing.
-pub fn next(year: u64, area: &mut [u8], bits: u64, frame: &[u8]) -> Brought
+// Takes the next frame. Where it follows those that are held it is held too; else they are in no
+// cycle, and it begins one or is in none. Refused 2: the area is not 65,536 bytes, or the frame is not
+// 16,384. Refused 25: the bits are not those of the first three slots or fewer. A refusal writes
+// nothing.
+pub fn next(year: u64, area: &mut [u8], bits: u64, frame: &[u8]) -> Result<Brought, Refusal>
     ensures { NextPromise year area.old bits frame.now area.new result }
 {
     if area.len() != cycle::CYCLE {
-        return not_taken(refusal::WRONG_LENGTH, bits);
+        return Err(Refusal::WrongLength);
     }
     if frame.len() != MAJOR_FRAME {
-        return not_taken(refusal::WRONG_LENGTH, bits);
+        return Err(Refusal::WrongLength);
     }
     let held = held(bits);
     if FRAMES <= held {
-        return not_taken(refusal::BITS_BEYOND_SLOTS, bits);
+        return Err(Refusal::BitsBeyondSlots);
     }
     if cycle::is_frame(year, held, frame) {
         return keep(area, bits, frame, 0);
@@ -48,62 +50,43 @@ pub fn next(year: u64, area: &mut [u8], bits: u64, frame: &[u8]) -> Brought
     if cycle::is_frame(year, 0, frame) {
         return keep(area, 0, frame, held);
     }
-    Brought {
-        refusal: 0,
+    Ok(Brought {
         bits: 0,
         omitted: held + 1,
         whole: false,
-    }
+    })
 }
 
 // Stores a frame behind those that are held; so many others are left out.
-fn keep(area: &mut [u8], bits: u64, frame: &[u8], omitted: u64) -> Brought
+fn keep(area: &mut [u8], bits: u64, frame: &[u8], omitted: u64) -> Result<Brought, Refusal>
     requires { (length area.old ≡ 65536) × (length frame.now ≡ 16384) × IsCount (held_in bits) }
-    ensures { (result ≡ kept_as (held_in bits) omitted) × (area.new ≡ with_frame (held_in bits) frame.now area.old) }
+    ensures { (result ≡ Ok (kept_as (held_in bits) omitted)) × (area.new ≡ with_frame (held_in bits) frame.now area.old) }
 {
-    let stored = frame_store::store(area, bits, frame);
+    let stored = frame_store::store(area, bits, frame)?;
     if stored.bits == ALL_SLOTS {
-        return Brought {
-            refusal: 0,
+        return Ok(Brought {
             bits: 0,
-            omitted: omitted,
+            omitted,
             whole: true,
-        };
+        });
     }
-    Brought {
-        refusal: 0,
+    Ok(Brought {
         bits: stored.bits,
-        omitted: omitted,
+        omitted,
         whole: false,
-    }
+    })
 }
 
 // How many frames are held: the bits are those of so many slots from the first on. 4 where they are not.
+#[tactic(auto, unfolding(crate::specs::Gathering::held_in))]
 pub fn held(bits: u64) -> u64
     ensures { result ≡ held_in bits }
 {
-    if bits == 0 {
-        return 0;
-    }
-    if bits == 1 {
-        return 1;
-    }
-    if bits == 3 {
-        return 2;
-    }
-    if bits == 7 {
-        return 3;
-    }
-    FRAMES
-}
-
-fn not_taken(number: u8, bits: u64) -> Brought
-    ensures { result ≡ not_taken number bits }
-{
-    Brought {
-        refusal: number,
-        bits: bits,
-        omitted: 0,
-        whole: false,
+    match bits {
+        0 => 0,
+        1 => 1,
+        3 => 2,
+        7 => 3,
+        _ => FRAMES,
     }
 }

@@ -4,6 +4,8 @@ use mathlib.Core.Bool.{true, false}
 use mathlib.Core.List.{List}
 use Prim.Native.Nat.{ℕ, ◌<◌}
 use native.Mathlib.Omega.{arith}
+use Rattle.std.proofs.Common.{Result, Ok}
+use Rattle.base.specs.declared.refusal.Refusal.{Refusal}
 use Rattle.cycle_frames.specs.declared.Brought.{Brought}
 use Rattle.cycle_frames.specs.Gathering.{Taken}
 use Rattle.cycle_frames.specs.Promise.{NextPromise}
@@ -23,11 +25,11 @@ clash e = let z : ◌≡◌ {A = ℕ} 0 1 = cc in absurd (omega arith)
 pub not_whole : {y before : ℕ} {area : List ℕ} (r : Read) → r.whole ≡ false → ReadPromise y before area r
 not_whole r e = record { is_cycle_fact = λ w. clash (sym w ∙ e); further = λ w. clash (sym w ∙ e) }
 
-module _ {y bits : ℕ} {area frame new : List ℕ} {r : Brought} (g : Going y bits area) (p : NextPromise y area bits frame new r) (ok : r.refusal ≡ 0) where
+module _ {y bits : ℕ} {area frame new : List ℕ} {r : Result Brought Refusal} {b : Brought} (g : Going y bits area) (p : NextPromise y area bits frame new r) (ok : r ≡ Ok b) where
   -- another frame is held, or none
-  pub went_on : r.whole ≡ false → Going y r.bits new
-  went_on w = record { frames = _; cycles = _; left = _; so_far = p.goes_on (sym p.refusal_is ∙ ok) g.so_far }
+  pub went_on : b.whole ≡ false → Going y b.bits new
+  went_on w = record { frames = _; cycles = _; left = _; so_far = p.goes_on ok g.so_far }
 
   -- the area holds a cycle
-  pub came_whole : r.whole ≡ true → (before : ℕ) (q : Read) → before < q.frames → ReadPromise y before new q
-  came_whole w before q l = record { is_cycle_fact = λ z. p.is_cycle_fact (sym p.refusal_is ∙ ok) g.so_far w; further = λ z. l }
+  pub came_whole : b.whole ≡ true → (before : ℕ) (q : Read) → before < q.frames → ReadPromise y before new q
+  came_whole w before q l = record { is_cycle_fact = λ z. p.is_cycle_fact ok g.so_far w; further = λ z. l }

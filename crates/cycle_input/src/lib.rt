@@ -56,11 +56,13 @@ fn gather(
             Ok(length) if length == frame.len() => (),
             got => return stopped(rt, program, frames, bits, got),
         }
-        let brought = cycle_frames::next(year, &mut *area, bits, frame);
-        if brought.refusal != 0 {
-            command::refuse(rt, program, b"standard input", brought.refusal);
-            return ended(true, false, frames);
-        }
+        let brought = match cycle_frames::next(year, &mut *area, bits, frame) {
+            Ok(brought) => brought,
+            Err(refusal) => {
+                command::refuse(rt, program, b"standard input", refusal.number());
+                return ended(true, false, frames);
+            }
+        };
         say_left_out(rt, program, first_held(frames, bits), brought.omitted);
         frames += 1;
         if brought.whole {

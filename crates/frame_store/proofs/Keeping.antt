@@ -11,15 +11,16 @@ use lib.Dec.{eqb, ltb}
 use lib.ListN.{length}
 use lib.Pow.{pow_mono, pow_pos}
 use Rattle.base.specs.Format.{major_frame}
-use Rattle.base.specs.Refusal.{◌when◌, refusal}
+use Rattle.base.specs.declared.refusal.Refusal.TheVariants.{WrongLength, NotWholeSlots, NoFreeSlot, NoSuchSlot}
+use Rattle.base.specs.Refusals.{◌when◌, refusal}
 use Rattle.frame_store.specs.Slots.{slots, whole_slots, start, slot_bytes, with_frame, is_in_use, lowest, lowest_free}
-use Rattle.frame_store.specs.Answers.{store_refusal, slot_refusal, part_of}
+use Rattle.frame_store.specs.Answers.{slot_lines, store_refusal, slot_refusal, part_of}
 use Rattle.frame_store.specs.Calls.{Call, storing, releasing, reading, Handed, begun, accepted, refused, Deed, put, freed, nothing, deed}
 use Rattle.frame_store.specs.Calls.{hold_after, held, is_held, part_held, bytes_after, last_bytes, Kept}
 use Rattle.frame_store.proofs.Bits.{no_bits, set-bit, set_below, bit_le, clear_bit}
 use Rattle.frame_store.proofs.Lowest.{clash, same-lowest}
 use Rattle.frame_store.proofs.Areas.{there, same_length, elsewhere}
-use Rattle.frame_store.proofs.Refusals.{Whole, Granted, to-granted, is_granted, Storable, to-storable}
+use Rattle.frame_store.proofs.Refusals.{Whole, permits, Granted, to-granted, is_granted, Storable, to-storable}
 use Rattle.frame_store.proofs.Answered.{slot-taken, bits-taken, leaves_taken, put-taken, bits-freed, freed_taken, part-taken, part-refused, deed-refused}
 
 -- ---- what is kept in step
@@ -147,14 +148,15 @@ module _ {first : List ℕ} {cs : List Call} {bits : ℕ} {area : List ℕ} (han
 
   granted : (i : ℕ) → is_in_use bits i ≡ true → slot_refusal area bits i ≡ 0
   granted i h =
-      is_granted (length area) bits i
-      (record { fitting = record { whole = s.whole i h; below = s.below }; there = in_span_fact i h; used = h })
+      permits (slot_lines (length area) bits i)
+      (is_granted (length area) bits i
+      (record { fitting = record { whole = s.whole i h; below = s.below }; there = in_span_fact i h; used = h }))
 
   reads : (i : ℕ) → part_of area bits i ≡ part_held (held i cs)
   reads i = by_held (held i cs) refl
     where
       by_held : (h : Option (List ℕ)) → held i cs ≡ h → part_of area bits i ≡ part_held h
-      by_held none e = part-refused area bits i _ refl (λ z. clash (to-granted (length area) bits i z).used (s.in_use i ∙ ap is_held e))
+      by_held none e = part-refused area bits i (λ z. clash (to-granted (length area) bits i z).used (s.in_use i ∙ ap is_held e))
       by_held (some frame) e =
           part-taken area bits i (granted i (s.in_use i ∙ ap is_held e)) ∙ s.bytes i ∙ held-last i cs frame (slot_bytes i first) e
 
@@ -169,7 +171,7 @@ module _ {first : List ℕ} {cs : List Call} {bits : ℕ} {area : List ℕ} (han
           never true = refl
           never false = refl
 
-  slot-refusal : (i : ℕ) → slot_refusal area bits i ≡ refusal (24 when not (whole_slots (length first)) ∷ 27 when not (is_held (held i cs)) ∷ [])
+  slot-refusal : (i : ℕ) → slot_refusal area bits i ≡ refusal (NotWholeSlots when not (whole_slots (length first)) ∷ NoSuchSlot when not (is_held (held i cs)) ∷ [])
   slot-refusal i = let size = s.size in rw (lt-leb (2 ^ slots (length area)) bits s.below, used_alone i, size)
 
   -- the lowest slot that holds no frame
@@ -180,9 +182,9 @@ module _ {first : List ℕ} {cs : List Call} {bits : ℕ} {area : List ℕ} (han
   lowest-empty = let size = s.size in rw size (same-lowest _ _ (λ i. ap not (s.in_use i)) 0 (slots (length first)))
 
   store_refusal_fact : (frame : List ℕ) → store_refusal area bits frame
-      ≡ refusal (2 when not (eqb (length frame) major_frame)
-      ∷ 24 when not (whole_slots (length first))
-      ∷ 26 when eqb empty (slots (length first))
+      ≡ refusal (WrongLength when not (eqb (length frame) major_frame)
+      ∷ NotWholeSlots when not (whole_slots (length first))
+      ∷ NoFreeSlot when eqb empty (slots (length first))
       ∷ [])
   store_refusal_fact frame = let size = s.size in rw (lt-leb (2 ^ slots (length area)) bits s.below, lowest-empty, size)
 

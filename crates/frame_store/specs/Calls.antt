@@ -2,9 +2,10 @@
 use Rattle.std.specs.Prelude.{◌≡◌, Bool, true, false, cond, not, List, [], ◌∷◌, ℕ, suc, eqb, length}
 use Rattle.std.proofs.Math.Option.{Option, none, some}
 use Rattle.base.specs.Format.{major_frame}
-use Rattle.base.specs.Refusal.{◌when◌, answered, refusal}
+use Rattle.base.specs.declared.refusal.Refusal.TheVariants.{WrongLength, NotWholeSlots, NoFreeSlot, NoSuchSlot}
+use Rattle.base.specs.Refusals.{◌when◌, answered, refusal, given_or}
 use Rattle.frame_store.specs.Slots.{slots, whole_slots, slot_bytes, is_in_use, lowest}
-use Rattle.frame_store.specs.Answers.{store_lines, slot_lines, store_refusal, slot_refusal, stored, store_leaves, released, part_of}
+use Rattle.frame_store.specs.Answers.{store_lines, slot_lines, store_refusal, slot_refusal, stored, slot_in, bits_in, store_leaves, released, part_of}
 
 -- a call and what it is handed: area, bits, and the frame or the slot
 pub data Call : Type 0 where
@@ -29,8 +30,8 @@ refusal_of (reading area bits i) = slot_refusal area bits i
 
 -- the bits that it answers, and the area that it leaves
 abbrev pub bits_after : Call → ℕ
-bits_after (storing area bits frame) = (stored area bits frame).bits
-bits_after (releasing area bits i) = (released area bits i).bits
+bits_after (storing area bits frame) = bits_in bits (stored area bits frame)
+bits_after (releasing area bits i) = given_or bits (released area bits i)
 bits_after (reading area bits i) = bits
 
 abbrev pub area_after : Call → List ℕ
@@ -55,7 +56,7 @@ pub data Deed : Type 0 where
   nothing : Deed
 
 abbrev pub deed : Call → Deed
-deed (storing area bits frame) = answered (λ n. nothing) (store_lines (length area) bits frame) (put (stored area bits frame).slot frame)
+deed (storing area bits frame) = answered (λ n. nothing) (store_lines (length area) bits frame) (put (slot_in (stored area bits frame)) frame)
 deed (releasing area bits i) = answered (λ n. nothing) (slot_lines (length area) bits i) (freed i)
 deed (reading area bits i) = nothing
 
@@ -94,7 +95,7 @@ pub record Kept (first : List ℕ) (cs : List Call) (bits : ℕ) (area : List �
   -- reading a slot hands back the frame last stored there and not released since, and an empty part where there is none
   pub reads : (i : ℕ) → part_of area bits i ≡ part_held (held i cs)
   -- it is refused 27 exactly where there is none; no bit is set beyond the slots
-  pub slot-refusal : (i : ℕ) → slot_refusal area bits i ≡ refusal (24 when not (whole_slots (length first)) ∷ 27 when not (is_held (held i cs)) ∷ [])
+  pub slot-refusal : (i : ℕ) → slot_refusal area bits i ≡ refusal (NotWholeSlots when not (whole_slots (length first)) ∷ NoSuchSlot when not (is_held (held i cs)) ∷ [])
   -- a slot is in use exactly where it holds such a frame
   pub in_use : (i : ℕ) → is_in_use bits i ≡ is_held (held i cs)
   -- every slot has the bytes of the last frame stored there; where there is none they are as they were
@@ -103,9 +104,9 @@ pub record Kept (first : List ℕ) (cs : List Call) (bits : ℕ) (area : List �
   -- a frame is stored next in the lowest slot that holds none, whether it was released or never stored in; only where every slot holds one is
   -- it refused 26
   pub store_refusal_fact : (frame : List ℕ) → store_refusal area bits frame
-      ≡ refusal (2 when not (eqb (length frame) major_frame)
-      ∷ 24 when not (whole_slots (length first))
-      ∷ 26 when eqb (lowest (λ i. not (is_held (held i cs))) 0 (slots (length first))) (slots (length first))
+      ≡ refusal (WrongLength when not (eqb (length frame) major_frame)
+      ∷ NotWholeSlots when not (whole_slots (length first))
+      ∷ NoFreeSlot when eqb (lowest (λ i. not (is_held (held i cs))) 0 (slots (length first))) (slots (length first))
       ∷ [])
   pub next : (frame : List ℕ) → store_refusal area bits frame ≡ 0
-      → (stored area bits frame).slot ≡ lowest (λ i. not (is_held (held i cs))) 0 (slots (length first))
+      → slot_in (stored area bits frame) ≡ lowest (λ i. not (is_held (held i cs))) 0 (slots (length first))

@@ -1,28 +1,24 @@
-// Runs the frame store on the records of standard input and writes a line for each answer: what tests/frame_store_vectors.py makes, with the
-// answers that it worked out by other means. Area and bits are handed on from record to record.
+// Runs the frame store on the records of standard input and writes a line for each answer: what
+// tests/frame_store_vectors.py makes, with the answers that it worked out by other means. Area and bits
+// are handed on from record to record.
 #![tactic(auto)]
 
 ghost use Rattle.std.specs.Prelude.{◌≡◌, length};
 
-use frame_store::{Released, Stored};
+use base::refusal;
+use base::refusal::Refusal;
+use frame_store::Stored;
 use std::io;
 use std::io::Input;
 use vectors::{checksum, field, filled, number, put};
-
-// The bits to hand on, and whether the input goes on.
-#[derive(Clone, Copy)]
-struct Next {
-    more: bool,
-    bits: u64,
-}
 
 fn main(rt: HostRuntime) -> io::Result<()> {
     let mut space = blank();
     every_record(&rt, &mut space)
 }
 
-// One slot and one byte more than the store takes. Callers know only the length: a check that counted so many bytes one by one would run out of
-// stack.
+// One slot and one byte more than the store takes. Callers know only the length: a check that counted
+// so many bytes one by one would run out of stack.
 fn blank() -> [u8; 1064961]
     ensures { 1064961 ≡ length result }
 {
@@ -31,34 +27,27 @@ fn blank() -> [u8; 1064961]
 
 fn every_record(rt: &(impl Input + Print), area: &mut [u8]) -> io::Result<()> {
     let mut bits: u64 = 0;
-    let mut left = vectors::MOST_RECORDS;
-    while left > 0 {
-        let next = turn(rt, &mut *area, bits)?;
-        if !next.more {
-            return Ok(());
+    for _ in 0..vectors::MOST_RECORDS {
+        match turn(rt, &mut *area, bits)? {
+            Some(left) => bits = left,
+            None => return Ok(()),
         }
-        bits = next.bits;
-        left -= 1;
     }
     Ok(())
 }
 
-// Reads a record and runs it on the first bytes of the area. A record: the operation; 1 where the call is handed bits of its own, which are
-// not handed on; two bytes of nothing; how many bytes of the area (4 bytes); those bits, and three numbers (8 bytes each).
-fn turn(rt: &(impl Input + Print), area: &mut [u8], bits: u64) -> io::Result<Next> {
+// Reads a record and runs it on the first bytes of the area: the bits to hand on, none at the end of
+// the input. A record: the operation; 1 where the call is handed bits of its own, which are not handed
+// on; two bytes of nothing; how many bytes of the area (4 bytes); those bits, and three numbers (8 bytes
+// each).
+fn turn(rt: &(impl Input + Print), area: &mut [u8], bits: u64) -> io::Result<Option<u64>> {
     let mut record = [0u8; 40];
     if !filled(rt, &mut record) {
-        return Ok(Next {
-            more: false,
-            bits: bits,
-        });
+        return Ok(None);
     }
     let size = number(&record[4..8]) as usize;
     if area.len() < size {
-        return Ok(Next {
-            more: false,
-            bits: bits,
-        });
+        return Ok(None);
     }
     let a = number(&record[16..24]);
     let b = number(&record[24..32]);
@@ -73,15 +62,10 @@ fn turn(rt: &(impl Input + Print), area: &mut [u8], bits: u64) -> io::Result<Nex
             b,
             n,
         )?;
-        return Ok(Next {
-            more: true,
-            bits: bits,
-        });
+        return Ok(Some(bits));
     }
-    Ok(Next {
-        more: true,
-        bits: run(rt, record[0], &mut area[0..size], bits, a, b, n)?,
-    })
+    let left = run(rt, record[0], &mut area[0..size], bits, a, b, n)?;
+    Ok(Some(left))
 }
 
 // The bits that the call leaves.
@@ -97,19 +81,18 @@ fn run(
     match operation {
         1 => {
             put_series(area, a, b);
-            return Ok(0);
+            Ok(0)
         }
-        2 => return store(rt, area, bits, a, b, n),
-        3 => return put_released(rt, frame_store::release(area, bits, a)),
+        2 => store(rt, area, bits, a, b, n),
+        3 => put_released(rt, frame_store::release(area, bits, a), bits),
         4 => {
             put_part(rt, frame_store::slot(area, bits, a))?;
-            vectors::put_refusal(rt, frame_store::slot_refusal(area, bits, a))?;
-            return Ok(bits);
+            Ok(bits)
         }
         _ => {
             field(rt, b"area ", checksum(area))?;
             put(rt, b"\n")?;
-            return Ok(bits);
+            Ok(bits)
         }
     }
 }
@@ -139,37 +122,49 @@ fn store_first(
     if bytes.len() < length {
         return Ok(bits);
     }
-    put_stored(rt, frame_store::store(area, bits, &bytes[0..length]))
+    put_stored(rt, frame_store::store(area, bits, &bytes[0..length]), bits)
 }
 
 // The numbers from the first on by the step, modulo 2^64, and of each the remainder by 251.
 fn put_series(bytes: &mut [u8], first: u64, step: u64) {
     let mut x = first;
-    let mut i: usize = 0;
-    while i < bytes.len() {
-        bytes[i] = (x % 251) as u8;
-        x = std::num::wrapping_add_u64(x, step);
-        i += 1;
+    for byte in bytes {
+        *byte = (x % 251) as u8;
+        x = x.wrapping_add(step);
     }
 }
 
-fn put_stored(rt: &impl Print, r: Stored) -> io::Result<u64> {
-    field(rt, b"slot ", r.slot)?;
-    field(rt, b" bits ", r.bits)?;
+// The answer as a line, a refused one with slot 0 and the bits that were; and the bits to hand on.
+fn put_stored(rt: &impl Print, answer: Result<Stored, Refusal>, bits: u64) -> io::Result<u64> {
+    let mut stored = Stored { slot: 0, bits };
+    let number = refusal::pass(answer, &mut stored);
+    field(rt, b"slot ", stored.slot)?;
+    field(rt, b" bits ", stored.bits)?;
     put(rt, b" ")?;
-    vectors::put_refusal(rt, r.refusal)?;
-    Ok(r.bits)
+    vectors::put_refusal(rt, number)?;
+    Ok(stored.bits)
 }
 
-fn put_released(rt: &impl Print, r: Released) -> io::Result<u64> {
-    field(rt, b"bits ", r.bits)?;
+fn put_released(rt: &impl Print, answer: Result<u64, Refusal>, bits: u64) -> io::Result<u64> {
+    let mut left = bits;
+    let number = refusal::pass(answer, &mut left);
+    field(rt, b"bits ", left)?;
     put(rt, b" ")?;
-    vectors::put_refusal(rt, r.refusal)?;
-    Ok(r.bits)
+    vectors::put_refusal(rt, number)?;
+    Ok(left)
 }
 
-fn put_part(rt: &impl Print, part: &[u8]) -> io::Result<()> {
+// The part as a line, a refused one as an empty part.
+fn put_part(rt: &impl Print, answer: Result<&[u8], Refusal>) -> io::Result<()> {
+    match answer {
+        Ok(part) => put_checked(rt, part, 0),
+        Err(refusal) => put_checked(rt, b"", refusal.number()),
+    }
+}
+
+fn put_checked(rt: &impl Print, part: &[u8], number: u8) -> io::Result<()> {
     field(rt, b"part ", part.len() as u64)?;
     field(rt, b" ", checksum(part))?;
-    put(rt, b" ")
+    put(rt, b" ")?;
+    vectors::put_refusal(rt, number)
 }

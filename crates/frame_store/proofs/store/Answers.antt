@@ -1,26 +1,25 @@
 -- `frame_store::store` meets its contract: each refusal is the table's, and the lowest free slot of 64 is the lowest of the area's where it is
 -- among them. Assumes nothing.
-use mathlib.Core.Path.{◌≡◌, sym, ◌∙◌}
-use mathlib.Core.List.{List}
-use Prim.Native.Nat.{ℕ, ◌+◌, ◌*◌, ◌^◌, ◌≤◌, ◌<◌}
+use Rattle.std.proofs.Common.{◌≡◌, sym, ◌∙◌, List, ℕ, ◌+◌, ◌*◌, ◌^◌, ◌≤◌, ◌<◌, Err, rules}
 use native.Mathlib.Omega.{arith}
 use lib.ListN.{length}
 use Rattle.base.specs.Format.{major_frame}
 use Rattle.frame_store.specs.Slots.{slots, lowest_free}
-use Rattle.frame_store.specs.Answers.{store_refusal}
+use Rattle.frame_store.specs.Answers.{area_lines, store_refusal}
 use Rattle.frame_store.proofs.Bits.{set_below, shifted}
 use Rattle.frame_store.proofs.Lowest.{found, among, none-among}
 use Rattle.frame_store.proofs.Areas.{copied}
-use Rattle.frame_store.proofs.Refusals.{Fitting, to-fitting, wrong-frame, wrong-area, all-used, is_storable}
+use Rattle.frame_store.proofs.Refusals.{permits, Fitting, to-fitting, wrong-frame, wrong-area, all-used, is_storable}
 use Rattle.frame_store.proofs.Promises.{store_refused, store_taken}
 use Rattle.frame_store.proofs.store.Goals as goal
-use Rattle.frame_store.proofs.store.Goals.{Else-area-slot, Else-number-ne0}
+use Rattle.frame_store.proofs.store.Goals.{Else-area-slot, In_ok-permit}
 
 -- the area is of whole slots, and the bits are within them
-fitting : (c : Else-number-ne0) → let a = c.args in Fitting (length a.area.now) a.bits
+fitting : (c : In_ok-permit) → let a = c.args in Fitting (length a.area.now) a.bits
 fitting c =
     let a = c.args in
-    to-fitting (length a.area.now) a.bits (sym c.area_refusal-number.ensures ∙ c.if-number-ne0.false)
+    let size = length a.area.now in
+    to-fitting size a.bits (permits (area_lines size a.bits) (sym c.in_ok-permit.was ∙ c.permit.ensures))
 
 -- the frame has its slot
 record Ready (area : List ℕ) (bits : ℕ) (frame : List ℕ) (slot : ℕ) : Type 0 where
@@ -51,31 +50,31 @@ at_slot : (c : Else-area-slot)
 at_slot c =
     let a = c.args in
     ready a.area.now a.bits a.frame.now c.lowest_free-slot.result (omega arith)
-    (to-fitting (length a.area.now) a.bits (sym c.area_refusal-number.ensures ∙ c.if-number-ne0.false)) c.lowest_free-slot.ensures
+    (to-fitting (length a.area.now) a.bits (permits (area_lines (length a.area.now) a.bits) (sym c.in_ok-permit.was ∙ c.permit.ensures))) c.lowest_free-slot.ensures
     (omega arith) (omega arith)
 
 pub returns-then-frame-ne-MAJOR_FRAME : goal.returns-then-frame-ne-MAJOR_FRAME
 returns-then-frame-ne-MAJOR_FRAME c =
     let a = c.args in
-    store_refused a.area.now a.bits a.frame.now 2 _ (wrong-frame (length a.area.now) a.bits a.frame.now c.if-frame-ne-MAJOR_FRAME.true)
-    (λ z. omega arith) c.not_stored.ensures
+    store_refused a.area.now a.bits a.frame.now _ (wrong-frame (length a.area.now) a.bits a.frame.now c.if-frame-ne-MAJOR_FRAME.true)
 
-pub returns-then-number-ne0 : goal.returns-then-number-ne0
-returns-then-number-ne0 c =
+pub returns-in_err-permit : goal.returns-in_err-permit
+returns-in_err-permit c =
     let a = c.args in
-    let z = c.if-number-ne0.true in
-    store_refused a.area.now a.bits a.frame.now _ _
-    (wrong-area (length a.area.now) a.bits a.frame.now _ (omega arith) (sym c.area_refusal-number.ensures) z) z c.not_stored-then-number-ne0.ensures
+    let r = c.in_err-permit.field-0.0 in
+    let same : c.from_residual.result ≡ Err r = search rules in
+    rw same
+    (store_refused a.area.now a.bits a.frame.now r
+    (wrong-area (length a.area.now) a.bits a.frame.now r c.if-frame-ne-MAJOR_FRAME.false (sym c.in_err-permit.was ∙ c.permit.ensures)))
 
 pub returns-then-area-slot : goal.returns-then-area-slot
 returns-then-area-slot c =
     let a = c.args in
-    let g = fitting (goal.at.returns-then-area-slot c).Else-number-ne0 in
+    let g = fitting (goal.at.returns-then-area-slot c).In_ok-permit in
     let size = length a.area.now in
     let low = c.lowest_free-slot.ensures in
-    store_refused a.area.now a.bits a.frame.now 26 _
+    store_refused a.area.now a.bits a.frame.now _
     (all-used size a.bits a.frame.now (omega arith) g (none-among a.bits (slots size) 64 g.whole.most (omega arith)))
-    (λ z. omega arith) c.not_stored-then-area-slot.ensures
 
 pub overflow_add-result : goal.overflow_add-result
 overflow_add-result c =
