@@ -4,13 +4,11 @@
 
 ghost use Rattle.std.specs.Prelude.{◌≤◌, length};
 
-use base::refusal;
+use base::refusal::Refusal;
 use std::io;
 use std::io::Input;
 use time_code::TimeCode;
 use vectors::{number, put};
-
-const RECORD: usize = 32;
 
 const OPERANDS: usize = 22;
 
@@ -18,12 +16,10 @@ const OPERANDS: usize = 22;
 const INFINITY: u64 = 0x7FF0_0000_0000_0000;
 
 fn main(rt: HostRuntime) -> io::Result<()> {
-    let mut left = vectors::MOST_RECORDS;
-    while left > 0 {
+    for _ in 0..vectors::MOST_RECORDS {
         if !turn(&rt)? {
             return Ok(());
         }
-        left -= 1;
     }
     Ok(())
 }
@@ -31,34 +27,26 @@ fn main(rt: HostRuntime) -> io::Result<()> {
 // Reads a record and runs it; false at the end of the input.
 fn turn(rt: &(impl Input + Print)) -> io::Result<bool> {
     let mut record = [0u8; 32];
-    if vectors::filled(rt, &mut record) {
-        return run(rt, &record);
-    }
-    Ok(false)
-}
-
-fn run(rt: &impl Print, record: &[u8]) -> io::Result<bool> {
-    if record.len() != RECORD {
+    if !vectors::filled(rt, &mut record) {
         return Ok(false);
     }
-    let operation = record[0];
-    let n = number(&record[1..2]) as usize;
+    run(rt, &record)
+}
+
+// A record's operation, how many bytes of its operands count, its year and its operands.
+fn run(rt: &impl Print, record: &[u8; 32]) -> io::Result<bool> {
+    let n = usize::from(record[1]);
     if OPERANDS < n {
         return Ok(false);
     }
     let year = number(&record[2..10]);
-    let operands = &record[10..32];
-    if operation == 1 {
-        read_time(rt, year, &operands[0..n])?;
-    }
-    if operation == 2 {
-        write_time(rt, year, operands, n)?;
-    }
-    if operation == 3 {
-        read_number(rt, &operands[0..n])?;
-    }
-    if operation == 4 {
-        write_number(rt, operands, n)?;
+    let operands = &record[10..];
+    match record[0] {
+        1 => read_time(rt, year, &operands[..n])?,
+        2 => write_time(rt, year, operands, n)?,
+        3 => read_number(rt, &operands[..n])?,
+        4 => write_number(rt, operands, n)?,
+        _ => {}
     }
     Ok(true)
 }
@@ -80,7 +68,7 @@ fn write_time(rt: &impl Print, year: u64, operands: &[u8], n: usize) -> io::Resu
     };
     let mut space = [0xA5u8; 22];
     let out = &mut space[0..n];
-    let answer = refusal::code(time_code::encode(year, t, out));
+    let answer = time_code::encode(year, t, out);
     written(rt, out, answer)
 }
 
@@ -98,7 +86,7 @@ fn write_number(rt: &impl Print, operands: &[u8], n: usize) -> io::Result<()>
     let x = double(number(&operands[0..8]));
     let mut space = [0xA5u8; 22];
     let out = &mut space[0..n];
-    let answer = refusal::code(float1750::encode(x, out));
+    let answer = float1750::encode(x, out);
     written(rt, out, answer)
 }
 
@@ -110,13 +98,12 @@ fn double(pattern: u64) -> f64 {
 }
 
 // The bytes that a writer left, and its answer.
-fn written(rt: &impl Print, out: &[u8], answer: u8) -> io::Result<()> {
+fn written(rt: &impl Print, out: &[u8], answer: Result<(), Refusal>) -> io::Result<()> {
     put(rt, b"[")?;
     vectors::put_bytes(rt, out)?;
     put(rt, b"] ")?;
-    if answer == 0 {
-        put(rt, b"written\n")?;
-        return Ok(());
+    match answer {
+        Ok(()) => put(rt, b"written\n"),
+        Err(r) => vectors::put_refusal(rt, r.number()),
     }
-    vectors::put_refusal(rt, answer)
 }

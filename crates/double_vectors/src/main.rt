@@ -14,12 +14,10 @@ const SIGN_BIT: u64 = 1 << 63;
 const INFINITY: u64 = 0x7FF0_0000_0000_0000;
 
 fn main(rt: HostRuntime) -> io::Result<()> {
-    let mut left = vectors::MOST_RECORDS;
-    while left > 0 {
+    for _ in 0..vectors::MOST_RECORDS {
         if !turn(&rt)? {
             return Ok(());
         }
-        left -= 1;
     }
     Ok(())
 }
@@ -27,29 +25,24 @@ fn main(rt: HostRuntime) -> io::Result<()> {
 // Reads a double and writes its line; false at the end of the input.
 fn turn(rt: &(impl Input + Print)) -> io::Result<bool> {
     let mut record = [0u8; 8];
-    if vectors::filled(rt, &mut record) {
-        show(rt, number(&record))?;
-        return Ok(true);
+    if !vectors::filled(rt, &mut record) {
+        return Ok(false);
     }
-    Ok(false)
+    show(rt, number(&record))?;
+    Ok(true)
 }
 
 // A NaN is written as one: the bits of it that are not fixed cannot be had.
 fn show(rt: &impl Print, bits: u64) -> io::Result<()> {
     if INFINITY < bits % SIGN_BIT {
-        vectors::put(rt, b"nan\n")?;
-        return Ok(());
+        return vectors::put(rt, b"nan\n");
     }
     show_double(rt, f64::from_bits(bits))
 }
 
 fn show_double(rt: &impl Print, x: f64) -> io::Result<()> {
-    let mut space = [0u8; LINE];
-    show_in(rt, &mut space, x)
-}
-
-fn show_in(rt: &impl Print, line: &mut [u8], x: f64) -> io::Result<()> {
-    let n = double_text::put_double(&mut *line, 0, x);
-    let end = command::put_byte(&mut *line, n, b'\n');
+    let mut line = [0u8; LINE];
+    let n = double_text::put_double(&mut line, 0, x);
+    let end = command::put_byte(&mut line, n, b'\n');
     vectors::put(rt, &line[..end])
 }

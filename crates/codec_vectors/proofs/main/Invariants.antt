@@ -1,5 +1,0 @@
--- `codec_vectors::main` ends: the records that are left fall. Assumes nothing.
-use Rattle.codec_vectors.proofs.main.Given as goal
-
-abbrev pub decreases-loop-left : goal.decreases-loop-left
-decreases-loop-left l = l.left
