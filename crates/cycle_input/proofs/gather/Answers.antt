@@ -13,14 +13,14 @@ returns-in-Err g c = not_whole _ c.ended.ensures
 
 pub returns-then-brought : goal.returns-then-brought
 returns-then-brought g c =
-    came_whole c.loop-frames.invariant.0 c.next.ensures c.in-Ok-2.is c.if-brought.true _ _ (omega (arith, c.found.ensures))
+    came_whole c.loop-frames.invariant.0 c.next.ensures c.in-Ok-next.is c.if-brought.true _ _ (omega (arith, c.found.ensures))
 
 pub loop-frames-smaller : goal.loop-frames-smaller
 loop-frames-smaller g c = omega arith
 
 pub loop-frames-preserved : goal.loop-frames-preserved
 loop-frames-preserved g c =
-    (went_on c.loop-frames.invariant.0 c.next.ensures c.in-Ok-2.is c.if-brought.false, search rules, search rules, omega arith)
+    (went_on c.loop-frames.invariant.0 c.next.ensures c.in-Ok-next.is c.if-brought.false, search rules, search rules, omega arith)
 
 pub returns : goal.returns
 returns g c = not_whole _ c.ended-2.ensures
