@@ -1,3 +1,2 @@
 pub mod BookCrossed
 pub mod ComparedCrossed
-pub mod RecordsCrossed

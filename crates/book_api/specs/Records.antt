@@ -1,15 +1,18 @@
 -- The records of a cycle as they cross: the number of the refusal, and what it gives in lent places, where a refusal leaves what stood there.
 -- Definitions only.
-use Rattle.std.specs.Prelude.{◌≡◌, cond, List, [], ◌∷◌, ℕ, eqb, Float, ℤ}
+use Rattle.std.specs.Prelude.{◌≡◌, List, [], ◌∷◌, ℕ, Float, ℤ, Result, Ok, Err}
+use Rattle.base.specs.declared.refusal.Refusal.{Refusal}
+use Rattle.base.specs.Refusals.{number_of}
 use Rattle.orbit_temperatures.specs.declared.Temperatures.{Temperatures}
 use Rattle.orbit_gyro_drift.specs.declared.GyroDrift.{GyroDrift}
 use Rattle.orbit_attitude.specs.declared.Attitude.{Attitude}
 use Rattle.orbit_clock.specs.declared.Clock.{Clock}
 use Rattle.orbit_ephemeris.specs.declared.Ephemeris.{Ephemeris}
 
--- what a lent place holds afterwards
-abbrev pub unless : {A : Type 0} → ℕ → A → A → A
-unless refusal old given = cond (eqb refusal 0) given old
+-- what a lent place holds after an answer: these values of what is given, or what stood there
+abbrev pub held : {A R : Type 0} → (R → A) → A → Result R Refusal → A
+held values old (Ok r) = values r
+held values old (Err e) = old
 
 -- the values of each record, in its order
 abbrev pub degrees : Temperatures → List Float
@@ -28,26 +31,26 @@ abbrev pub components : Ephemeris → List Float
 components e = e.x ∷ e.y ∷ e.z ∷ e.vx ∷ e.vy ∷ e.vz ∷ []
 
 -- r is answered, and the places hold new where they held old
-pub record TemperaturesCrossed (t : Temperatures) (r : ℕ) (old new : List Float) : Type 0 where
-  pub refusal_is : r ≡ t.refusal
-  pub values-are : new ≡ unless r old (degrees t)
+pub record TemperaturesCrossed (t : Result Temperatures Refusal) (r : ℕ) (old new : List Float) : Type 0 where
+  pub refusal_is : r ≡ number_of t
+  pub values-are : new ≡ held degrees old t
 
-pub record DriftCrossed (g : GyroDrift) (r i j : ℕ) (old new : List Float) : Type 0 where
-  pub refusal_is : r ≡ g.refusal
-  pub instant-is : j ≡ unless r i g.instant
-  pub values-are : new ≡ unless r old (drifts g)
+pub record DriftCrossed (g : Result GyroDrift Refusal) (r i j : ℕ) (old new : List Float) : Type 0 where
+  pub refusal_is : r ≡ number_of g
+  pub instant-is : j ≡ held (λ (given : GyroDrift). given.instant) i g
+  pub values-are : new ≡ held drifts old g
 
-pub record AttitudeCrossed (a : Attitude) (r i j : ℕ) (old new : List ℤ) : Type 0 where
-  pub refusal_is : r ≡ a.refusal
-  pub instant-is : j ≡ unless r i a.instant
-  pub values-are : new ≡ unless r old (parameters a)
+pub record AttitudeCrossed (a : Result Attitude Refusal) (r i j : ℕ) (old new : List ℤ) : Type 0 where
+  pub refusal_is : r ≡ number_of a
+  pub instant-is : j ≡ held (λ (given : Attitude). given.instant) i a
+  pub values-are : new ≡ held parameters old a
 
-pub record ClockCrossed (c : Clock) (r : ℕ) (x y : Float) (old new : List ℕ) : Type 0 where
-  pub refusal_is : r ≡ c.refusal
-  pub update_is : y ≡ unless r x c.updated
-  pub values-are : new ≡ unless r old (terms c)
+pub record ClockCrossed (c : Result Clock Refusal) (r : ℕ) (x y : Float) (old new : List ℕ) : Type 0 where
+  pub refusal_is : r ≡ number_of c
+  pub update_is : y ≡ held (λ (given : Clock). given.updated) x c
+  pub values-are : new ≡ held terms old c
 
-pub record EphemerisCrossed (e : Ephemeris) (r i j : ℕ) (old new : List Float) : Type 0 where
-  pub refusal_is : r ≡ e.refusal
-  pub instant-is : j ≡ unless r i e.instant
-  pub values-are : new ≡ unless r old (components e)
+pub record EphemerisCrossed (e : Result Ephemeris Refusal) (r i j : ℕ) (old new : List Float) : Type 0 where
+  pub refusal_is : r ≡ number_of e
+  pub instant-is : j ≡ held (λ (given : Ephemeris). given.instant) i e
+  pub values-are : new ≡ held components old e

@@ -10,25 +10,27 @@ ghost use Rattle.book_api.specs.Records.{TemperaturesCrossed, DriftCrossed, Atti
 pub fn pcd_temperatures(cycle: &[u8], year: u64, frame: u64, out: &mut [f64; 4]) -> u8
     ensures { TemperaturesCrossed (temperatures_of cycle.now year frame) result out.old out.new }
 {
-    let t = orbit::temperatures::read(cycle, year, frame);
-    if t.refusal != 0 {
-        return t.refusal;
+    match orbit::temperatures::read(cycle, year, frame) {
+        Ok(t) => {
+            *out = [t.temp1, t.temp2, t.temp3, t.temp4];
+            0
+        }
+        Err(refusal) => refusal.number(),
     }
-    *out = [t.temp1, t.temp2, t.temp3, t.temp4];
-    0
 }
 
 // The drift of the gyros, in radians per second, and its instant.
 pub fn pcd_gyro_drift(cycle: &[u8], year: u64, instant: &mut u64, out: &mut [f64; 3]) -> u8
     ensures { DriftCrossed (gyro_drift_of cycle.now year) result instant.old instant.new out.old out.new }
 {
-    let g = orbit::gyro_drift::read(cycle, year);
-    if g.refusal != 0 {
-        return g.refusal;
+    match orbit::gyro_drift::read(cycle, year) {
+        Ok(g) => {
+            *instant = g.instant;
+            *out = [g.x, g.y, g.z];
+            0
+        }
+        Err(refusal) => refusal.number(),
     }
-    *instant = g.instant;
-    *out = [g.x, g.y, g.z];
-    0
 }
 
 // The Euler parameters of a major frame as counts, and their instant.
@@ -42,26 +44,28 @@ pub fn pcd_attitude(
     ensures { AttitudeCrossed (attitude_of cycle.now year frame) result instant.old instant.new
         out.old out.new }
 {
-    let a = orbit::attitude::read(cycle, year, frame);
-    if a.refusal != 0 {
-        return a.refusal;
+    match orbit::attitude::read(cycle, year, frame) {
+        Ok(a) => {
+            *instant = a.instant;
+            *out = [a.epa1, a.epa2, a.epa3, a.epa4];
+            0
+        }
+        Err(refusal) => refusal.number(),
     }
-    *instant = a.instant;
-    *out = [a.epa1, a.epa2, a.epa3, a.epa4];
-    0
 }
 
 // The last update of the clock, in seconds, and the counts of its three terms.
 pub fn pcd_clock(cycle: &[u8], year: u64, updated: &mut f64, out: &mut [u64; 3]) -> u8
     ensures { ClockCrossed (clock_of cycle.now year) result updated.old updated.new out.old out.new }
 {
-    let c = orbit::clock::read(cycle, year);
-    if c.refusal != 0 {
-        return c.refusal;
+    match orbit::clock::read(cycle, year) {
+        Ok(c) => {
+            *updated = c.updated;
+            *out = [u64::from(c.bias), u64::from(c.rate), u64::from(c.acceleration)];
+            0
+        }
+        Err(refusal) => refusal.number(),
     }
-    *updated = c.updated;
-    *out = [c.bias, c.rate, c.acceleration];
-    0
 }
 
 // The position and the velocity in a major frame, in metres and metres per millisecond, and their instant.
@@ -75,11 +79,12 @@ pub fn pcd_ephemeris(
     ensures { EphemerisCrossed (ephemeris_of cycle.now year frame) result instant.old instant.new
         out.old out.new }
 {
-    let e = orbit::ephemeris::read(cycle, year, frame);
-    if e.refusal != 0 {
-        return e.refusal;
+    match orbit::ephemeris::read(cycle, year, frame) {
+        Ok(e) => {
+            *instant = e.instant;
+            *out = [e.x, e.y, e.z, e.vx, e.vy, e.vz];
+            0
+        }
+        Err(refusal) => refusal.number(),
     }
-    *instant = e.instant;
-    *out = [e.x, e.y, e.z, e.vx, e.vy, e.vz];
-    0
 }

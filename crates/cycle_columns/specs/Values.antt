@@ -1,7 +1,5 @@
 -- The values of a cycle's records. Definitions only.
-use Rattle.std.specs.Prelude.{cond, ◌&&◌, List, ℕ, eqb, leb, length, replicate, Float}
-use Rattle.std.specs.Float.{binary64}
-use Rattle.std.specs.Float.Ieee.{of_bits}
+use Rattle.std.specs.Prelude.{cond, ◌&&◌, List, ℕ, eqb, leb, length, replicate}
 use Rattle.cycle.specs.Cycle.{cycle_length}
 use Rattle.cycle_records.specs.Columns.{column_of, count_at}
 
@@ -12,7 +10,3 @@ column_in body k = cond (eqb (length body) cycle_length && leb k 3) (column_of b
 -- a 32-bit count
 abbrev pub word : List ℕ → ℕ → ℕ
 word column place = count_at 4 column place
-
--- the double all of whose bits are 0
-abbrev pub nought : Float
-nought = of_bits binary64 0

@@ -1,7 +1,7 @@
 // Word 72 of a cycle's major frames, and the counts in it. A leaf for the records of a cycle.
 #![tactic(auto)]
 
-ghost use Rattle.std.specs.Prelude.{◌≡◌, ◌≤◌, min, length};
+ghost use Rattle.std.specs.Prelude.{◌≡◌, ◌≤◌, length};
 ghost use Rattle.cycle_records.specs.Columns.{column_of, count_at};
 ghost use Rattle.fixed_point.specs.Promise.{ScaledPromise};
 ghost use Rattle.cycle_columns.specs.Values.{column_in, word};
@@ -45,10 +45,10 @@ pub fn count32(column: &[u8], place: usize) -> u32
 }
 
 // The same of two bytes.
-pub fn count16(column: &[u8], place: usize) -> u64
+pub fn count16(column: &[u8], place: usize) -> u16
     ensures { result ≡ count_at 2 column.now place }
 {
-    count(column, place, 2)
+    count(column, place, 2) as u16
 }
 
 // The same of up to eight.
@@ -56,18 +56,9 @@ fn count(column: &[u8], place: usize, width: usize) -> u64
     requires { width ≤ 8 }
     ensures { result ≡ count_at width column.now place }
 {
-    let start = least(place, column.len());
-    let end = start + least(width, column.len() - start);
+    let start = place.min(column.len());
+    let end = start + width.min(column.len() - start);
     base::big_endian::read(&column[start..end])
-}
-
-fn least(a: usize, b: usize) -> usize
-    ensures { result ≡ min a b }
-{
-    if a <= b {
-        return a;
-    }
-    b
 }
 
 // The count at four places from this one on, with so many binary places after the point.

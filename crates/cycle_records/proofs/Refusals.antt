@@ -1,31 +1,25 @@
--- Laws of refusal lines: a number that is given, none that is given, and lines that follow others. Assumes nothing.
-use mathlib.Core.Path.{◌≡◌, refl, sym, ap}
-use mathlib.Core.Bool.{Bool, true, false, cond}
-use mathlib.Core.List.{List, [], ◌∷◌, ◌++◌}
-use Prim.Native.Nat.{ℕ}
-use Rattle.base.specs.Refusal.{Line, answered, refusal}
-use Rattle.base.proofs.Refusals.{NoneHolds, Positive}
+-- Laws of an answer by lines that others follow: these refuse first, and alone matter where the first do not. Assumes nothing.
+use Rattle.std.proofs.Common.{◌≡◌, sym, ap, ◌∙◌, List, Result, Ok, Err, IsErrAnd}
+use Rattle.base.specs.declared.refusal.Refusal.{Refusal}
+use Rattle.base.specs.Refusals.{Line, answered}
+use Rattle.base.proofs.Lines.{answered-of}
 
--- where no number is given, no line holds
-pub none-holds : (ls : List Line) → Positive ls → refusal ls ≡ 0 → NoneHolds ls
-none-holds [] p e = tt
-none-holds (l ∷ ls) p e = first l.holds refl e (none-holds ls p.1)
-  where
-    first : (b : Bool) → l.holds ≡ b → cond b l.number (refusal ls) ≡ 0 → (refusal ls ≡ 0 → NoneHolds ls) → NoneHolds (l ∷ ls)
-    first true h e rest = absurd (p.0 e)
-    first false h e rest = (h, rest e)
+module _ {A B : Type 0} where
+  -- what follows an answer: this where it is no refusal
+  abbrev followed : Result A Refusal → Result B Refusal → Result B Refusal
+  followed (Ok a) next = next
+  followed (Err r) next = Err r
 
--- lines that refuse with n answer n's refusal
-pub refused-by : {A : Type 0} (refused : ℕ → A) (ls : List Line) (given : A) (n : ℕ) → refusal ls ≡ n → (n ≡ 0 → ⊥) → answered refused ls given ≡ refused n
-refused-by refused [] given n e z = absurd (z (sym e))
-refused-by {A} refused (l ∷ ls) given n e z = first l.holds e (λ r. refused-by refused ls given n r z)
-  where
-    first : (b : Bool) → cond b l.number (refusal ls) ≡ n → (refusal ls ≡ n → answered refused ls given ≡ refused n)
-        → cond b (refused l.number) (answered refused ls given) ≡ refused n
-    first true e rest = ap refused e
-    first false e rest = rest e
+  module _ (ls : List Line) (given : A) (next : Result B Refusal) where
+    any_next : followed (answered Err ls (Ok given)) next ≡ answered Err ls next
+    any_next = answered-of (λ (a : Result A Refusal). followed a next) Err ls (Ok given)
 
--- lines that follow do not matter where these refuse, and alone matter where they do not
-pub refusal-append : (ls ms : List Line) → refusal (ls ++ ms) ≡ answered (λ n. n) ls (refusal ms)
-refusal-append [] ms = refl
-refusal-append (l ∷ ls) ms = ap (λ (r : ℕ). cond l.holds l.number r) (refusal-append ls ms)
+    -- lines that refuse do so whatever follows: `?` hands the refusal on
+    pub refused-first : (r : Refusal) (out : Result B Refusal) → answered Err ls (Ok given) ≡ Err r → IsErrAnd out (λ (s : Refusal). s ≡ r)
+        → out ≡ answered Err ls next
+    refused-first r (Ok b) e h = absurd h
+    refused-first r (Err s) e h = ap Err h ∙ sym (ap (λ (a : Result A Refusal). followed a next) e) ∙ any_next
+
+    -- lines that do not refuse leave what follows
+    pub left_over : (a : A) → answered Err ls (Ok given) ≡ Ok a → next ≡ answered Err ls next
+    left_over a e = sym (ap (λ (b : Result A Refusal). followed b next) e) ∙ any_next

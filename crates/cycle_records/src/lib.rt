@@ -2,12 +2,12 @@
 #![tactic(auto)]
 
 ghost use Rattle.std.specs.Prelude.{◌≡◌, ◌≤◌, ◌<◌, ◌^◌};
-ghost use Rattle.base.specs.Refusal.{refusal as number};
+ghost use Rattle.base.specs.Refusals.{answered, permitted};
 ghost use Rattle.cycle.specs.Cycle.{instant_of};
 ghost use Rattle.cycle_records.specs.Instants.{record_instant, SameInstants, is_writable};
 ghost use Rattle.cycle_records.specs.Lines.{cycle_lines, dated_lines};
 
-use base::refusal;
+use base::refusal::Refusal;
 use time_code::year;
 
 const LAST_FRAME: u64 = 3;
@@ -20,38 +20,36 @@ const TWO_FRAMES: u64 = 131_072;
 
 const TICKS_PER_DAY: u64 = 1_382_400_000;
 
-// Why a record of major frame k is refused whatever it holds, 0 for none. 2: not 65,536 bytes. 13: the year is outside 1999 to 2099. 6: k is above
-// 3. 17: no cycle of this year.
-pub fn cycle_refusal(body: &[u8], year: u64, k: u64) -> u8
-    ensures { result ≡ number (cycle_lines body.now year k) }
+// Whether a record of major frame k is refused whatever it holds. 2: not 65,536 bytes. 13: the year is outside 1999 to 2099. 6: k is above 3.
+// 17: no cycle of this year.
+pub fn check_cycle(body: &[u8], year: u64, k: u64) -> Result<(), Refusal>
+    ensures { result ≡ permitted (cycle_lines body.now year k) }
 {
     if body.len() != cycle::CYCLE {
-        return refusal::WRONG_LENGTH;
+        return Err(Refusal::WrongLength);
     }
     if !year::in_span(year) {
-        return refusal::YEAR_OUTSIDE_SPAN;
+        return Err(Refusal::YearOutsideSpan);
     }
     if LAST_FRAME < k {
-        return refusal::NO_SUCH_KIND;
+        return Err(Refusal::NoSuchKind);
     }
     if !cycle::is_cycle(year, body) {
-        return refusal::NOT_A_CYCLE;
+        return Err(Refusal::NotACycle);
     }
-    0
+    Ok(())
 }
 
-// Why a record of major frame k that has an instant is refused: as above, or 8: the instant leaves the days of the year.
-pub fn dated_refusal(body: &[u8], year: u64, k: u64) -> u8
-    ensures { result ≡ number (dated_lines body.now year k) }
+// The instant of the records of major frame k. Refused as above, or 8: the instant leaves the days of the year.
+pub fn instant_in_year(body: &[u8], year: u64, k: u64) -> Result<u64, Refusal>
+    ensures { result ≡ answered Err (dated_lines body.now year k) (Ok (record_instant (instant_of year body.now) k)) }
 {
-    let number = cycle_refusal(body, year, k);
-    if number != 0 {
-        return number;
+    check_cycle(body, year, k)?;
+    let instant = instant(body, year, k);
+    if !is_writable(year, instant) {
+        return Err(Refusal::TimeOutOfRange);
     }
-    if is_writable(year, instant(body, year, k)) {
-        return 0;
-    }
-    refusal::TIME_OUT_OF_RANGE
+    Ok(instant)
 }
 
 // The instant of the records of major frame k; of any above 3 that of the last.
@@ -65,10 +63,7 @@ pub fn instant(body: &[u8], year: u64, k: u64) -> u64
 fn frame_of(k: u64) -> u64
     ensures { (result ≤ 3) × SameInstants result k }
 {
-    if k < LAST_FRAME {
-        return k;
-    }
-    LAST_FRAME
+    k.min(LAST_FRAME)
 }
 
 // k major frames on and two back; 0 where that would be below 0.
@@ -76,11 +71,7 @@ fn record_instant(t: u64, k: u64) -> u64
     requires { (t < 2 ^ 40) × (k ≤ 3) }
     ensures { result ≡ record_instant t k }
 {
-    let later = t + k * MAJOR_FRAME_TIME;
-    if later < TWO_FRAMES {
-        return 0;
-    }
-    later - TWO_FRAMES
+    (t + k * MAJOR_FRAME_TIME).saturating_sub(TWO_FRAMES)
 }
 
 // Whether an instant lies in the days of the year.

@@ -1,34 +1,36 @@
--- The promise of `read`, from the answer on each way out: a refusal is the table's, and what is given is given where no line holds. Assumes nothing.
-use mathlib.Core.Path.{◌≡◌, refl}
-use mathlib.Core.List.{List}
-use Prim.Native.Nat.{ℕ}
-use Rattle.base.specs.Refusal.{refusal}
-use Rattle.cycle.specs.Cycle.{instant_of}
+-- The promise of `read`, on each way out: what is refused is refused by the lines, and what is given is given where none of them holds.
+-- Assumes nothing.
+use Rattle.std.proofs.Common.{◌≡◌, sym, ap, ◌∙◌, List, ℕ, Result, Ok, Err, IsErrAnd}
+use Rattle.base.specs.declared.refusal.Refusal.{Refusal}
+use Rattle.base.specs.Refusals.{number_of}
+use Rattle.base.proofs.Lines.{numbered}
 use Rattle.cycle_records.specs.Columns.{column_of}
-use Rattle.cycle_records.specs.Instants.{record_instant}
 use Rattle.cycle_records.specs.Lines.{dated_lines}
-use Rattle.cycle_records.proofs.Known.{dated_numbers, dated_in_step}
-use Rattle.cycle_columns.proofs.Answers.{is_refused, is_given}
+use Rattle.cycle_records.proofs.Known.{i, instant_answer, Dated}
+use Rattle.cycle_records.proofs.Refusals.{refused-first, left_over}
 use Rattle.orbit_attitude.specs.declared.Attitude.{Attitude}
-use Rattle.orbit_attitude.specs.Record.{no_attitude, attitude_in, attitude_of}
+use Rattle.orbit_attitude.specs.Record.{attitude_in, attitude_of}
 use Rattle.orbit_attitude.specs.Promise.{AttitudePromise}
 
-module _ (cycle : List ℕ) (y k : ℕ) where
-  abbrev i : ℕ
-  i = record_instant (instant_of y cycle) k
+module _ (cycle : List ℕ) (y k : ℕ) (d : Result ℕ Refusal) (is : d ≡ instant_answer cycle y k) where
+  abbrev given : Attitude
+  given = attitude_in (i cycle y k) (column_of cycle k)
 
-  pub attitude_refused : (n : ℕ) (r : Attitude) → n ≡ refusal (dated_lines cycle y k) → (n ≡ 0 → ⊥) → r ≡ no_attitude n → AttitudePromise cycle y k r
+  pub attitude_refused : (e : Refusal) (r : Result Attitude Refusal) → d ≡ Err e → IsErrAnd r (λ (f : Refusal). f ≡ e) → AttitudePromise cycle y k r
   unfolding attitude_of
-  attitude_refused n r e z f =
-      let a = is_refused (λ (u : Attitude). u.refusal) no_attitude (λ m. refl) (dated_lines cycle y k) (attitude_in i (column_of cycle k)) n r e z f in
-      record { answer = a.0; in_step = λ q. absurd (a.1 q) }
+  attitude_refused e (Ok a) f h = absurd h
+  attitude_refused e (Err g) f h =
+      let answer = refused-first (dated_lines cycle y k) (i cycle y k) (Ok given) e (Err g) (sym is ∙ f) h in
+      record { answer = answer; refusal_is = ap number_of answer ∙ numbered (dated_lines cycle y k) given; in_step = tt }
 
-  pub attitude_given : (c : List ℕ) (t : ℕ) (r : Attitude) → refusal (dated_lines cycle y k) ≡ 0 → c ≡ column_of cycle k → t ≡ i → r ≡ attitude_in t c
-      → AttitudePromise cycle y k r
+  pub attitude_given : (t : ℕ) (c : List ℕ) (a : Attitude) → d ≡ Ok t → Dated cycle y k t → c ≡ column_of cycle k → a ≡ attitude_in t c
+      → AttitudePromise cycle y k (Ok a)
   unfolding attitude_of
-  attitude_given c t r e f g h =
-      let is : r ≡ attitude_in i (column_of cycle k) = rw (f, g) at h in
+  attitude_given t c a e known f h =
+      let same : a ≡ given = rw (sym known.is, f) at h in
+      let answer = ap Ok same ∙ left_over (dated_lines cycle y k) (i cycle y k) (Ok given) t (sym is ∙ e) in
       record {
-        answer = is_given (λ (u : Attitude). u.refusal) no_attitude (λ m. refl) (dated_lines cycle y k) _ r (dated_numbers cycle y k) e is;
-        in_step = λ q. rw is (dated_in_step cycle y k e);
+        answer = answer;
+        refusal_is = ap number_of answer ∙ numbered (dated_lines cycle y k) given;
+        in_step = rw same known.in_step_fact;
       }

@@ -17,5 +17,5 @@ as_returned z h = to_z-of_z {w = w64} (record { sfits = h })
 
 module _ (c : List ℕ) where
   pub attitude_is : (i : ℕ) (e1 e2 e3 e4 : ℤ) → e1 ≡ signed (word c 0) → e2 ≡ signed (word c 4) → e3 ≡ signed (word c 8) → e4 ≡ signed (word c 12)
-      → record { refusal = 0; instant = i; epa1 = e1; epa2 = e2; epa3 = e3; epa4 = e4 } ≡ attitude_in i c
+      → record { instant = i; epa1 = e1; epa2 = e2; epa3 = e3; epa4 = e4 } ≡ attitude_in i c
   attitude_is i e1 e2 e3 e4 p1 p2 p3 p4 = rw (p1, p2, p3, p4)

@@ -1,7 +1,8 @@
--- The attitude (DFCB 3.2.7.4.5): places 0 to 15 of every major frame; signed counts, whose weight no table tells. Beside a refusal every value is 0.
+-- The attitude (DFCB 3.2.7.4.5): places 0 to 15 of every major frame; signed counts, whose weight no table tells.
 -- Definitions only.
-use Rattle.std.specs.Prelude.{List, ℕ, pos}
-use Rattle.base.specs.Refusal.{answered}
+use Rattle.std.specs.Prelude.{List, ℕ, Result, Ok, Err}
+use Rattle.base.specs.declared.refusal.Refusal.{Refusal}
+use Rattle.base.specs.Refusals.{answered}
 use Rattle.cycle.specs.Cycle.{instant_of}
 use Rattle.cycle_records.specs.Columns.{column_of}
 use Rattle.cycle_records.specs.Instants.{record_instant}
@@ -12,7 +13,6 @@ use Rattle.orbit_attitude.specs.declared.Attitude.{Attitude}
 
 abbrev pub attitude_in : ℕ → List ℕ → Attitude
 attitude_in i c = record {
-  refusal = 0;
   instant = i;
   epa1 = signed (word c 0);
   epa2 = signed (word c 4);
@@ -20,9 +20,6 @@ attitude_in i c = record {
   epa4 = signed (word c 12);
 }
 
-abbrev pub no_attitude : ℕ → Attitude
-no_attitude n = record { refusal = n; instant = 0; epa1 = pos 0; epa2 = pos 0; epa3 = pos 0; epa4 = pos 0 }
-
-unfoldable pub attitude_of : List ℕ → ℕ → ℕ → Attitude
+unfoldable pub attitude_of : List ℕ → ℕ → ℕ → Result Attitude Refusal
 attitude_of cycle y k =
-    answered no_attitude (dated_lines cycle y k) (attitude_in (record_instant (instant_of y cycle) k) (column_of cycle k))
+    answered Err (dated_lines cycle y k) (Ok (attitude_in (record_instant (instant_of y cycle) k) (column_of cycle k)))

@@ -1,10 +1,11 @@
 -- The clock (DFCB 3.2.7.4.6, 3.2.7.4.7): places 28 to 33 and 36 to 41 of major frame 0; seconds from midnight of the year's first day, and counts in
--- ms, ms/day and ms/day², whose weight and sign no table tells. Beside a refusal every value is 0. Definitions only.
-use Rattle.std.specs.Prelude.{not, ◌||◌, List, [], ◌∷◌, ◌++◌, ℕ}
-use Rattle.base.specs.Refusal.{Line, ◌when◌, answered}
+-- ms, ms/day and ms/day², whose weight and sign no table tells. Definitions only.
+use Rattle.std.specs.Prelude.{not, ◌||◌, List, [], ◌∷◌, ◌++◌, ℕ, Result, Ok, Err}
+use Rattle.base.specs.declared.refusal.Refusal.{Refusal}
+use Rattle.base.specs.declared.refusal.Refusal.TheVariants.{NotNormalised}
+use Rattle.base.specs.Refusals.{Line, ◌when◌, answered}
 use Rattle.cycle_records.specs.Columns.{column_of, count_at}
 use Rattle.cycle_records.specs.Lines.{cycle_lines}
-use Rattle.cycle_columns.specs.Values.{nought}
 use Rattle.float1750.specs.Word.{is_zero, normalised, value}
 use Rattle.word72_column.specs.Columns.{between}
 use Rattle.orbit_clock.specs.declared.Clock.{Clock}
@@ -14,22 +15,18 @@ abbrev pub clock_update : List ℕ → List ℕ
 clock_update column = between 28 34 column
 
 abbrev pub normal_line : List ℕ → List Line
-normal_line column = 10 when not (is_zero (clock_update column) || normalised (clock_update column)) ∷ []
+normal_line column = NotNormalised when not (is_zero (clock_update column) || normalised (clock_update column)) ∷ []
 
 abbrev pub clock_lines : List ℕ → ℕ → List Line
 clock_lines cycle y = cycle_lines cycle y 0 ++ normal_line (column_of cycle 0)
 
 abbrev pub clock_in : List ℕ → Clock
 clock_in c = record {
-  refusal = 0;
   updated = value (clock_update c);
   bias = count_at 2 c 36;
   rate = count_at 2 c 38;
   acceleration = count_at 2 c 40;
 }
 
-abbrev pub no_clock : ℕ → Clock
-no_clock n = record { refusal = n; updated = nought; bias = 0; rate = 0; acceleration = 0 }
-
-unfoldable pub clock_of : List ℕ → ℕ → Clock
-clock_of cycle y = answered no_clock (clock_lines cycle y) (clock_in (column_of cycle 0))
+unfoldable pub clock_of : List ℕ → ℕ → Result Clock Refusal
+clock_of cycle y = answered Err (clock_lines cycle y) (Ok (clock_in (column_of cycle 0)))

@@ -1,37 +1,37 @@
--- The promise of `read`, from the answer on each way out: a refusal is the table's, and what is given is given where no line holds. Assumes nothing.
-use mathlib.Core.Path.{◌≡◌, refl}
-use mathlib.Core.List.{List}
-use Prim.Native.Nat.{ℕ}
-use Rattle.base.specs.Refusal.{refusal}
-use Rattle.cycle.specs.Cycle.{instant_of}
+-- The promise of `read`, on each way out: what is refused is refused by the lines, and what is given is given where none of them holds.
+-- Assumes nothing.
+use Rattle.std.proofs.Common.{◌≡◌, sym, ap, ◌∙◌, List, ℕ, Result, Ok, Err, IsErrAnd}
+use Rattle.base.specs.declared.refusal.Refusal.{Refusal}
+use Rattle.base.specs.Refusals.{number_of}
+use Rattle.base.proofs.Lines.{numbered}
 use Rattle.cycle_records.specs.Columns.{column_of}
-use Rattle.cycle_records.specs.Instants.{record_instant}
 use Rattle.cycle_records.specs.Lines.{dated_lines}
-use Rattle.cycle_records.proofs.Known.{dated_numbers, dated_in_step}
-use Rattle.cycle_columns.proofs.Answers.{is_refused, is_given}
+use Rattle.cycle_records.proofs.Known.{i, instant_answer, Dated}
+use Rattle.cycle_records.proofs.Refusals.{refused-first, left_over}
 use Rattle.orbit_ephemeris.specs.declared.Ephemeris.{Ephemeris}
-use Rattle.orbit_ephemeris.specs.Record.{no_ephemeris, ephemeris_place, ephemeris_in, ephemeris_of}
+use Rattle.orbit_ephemeris.specs.Record.{ephemeris_place, ephemeris_in, ephemeris_of}
 use Rattle.orbit_ephemeris.specs.Promise.{EphemerisIn, EphemerisPromise}
 
-module _ (cycle : List ℕ) (y k : ℕ) where
-  abbrev i : ℕ
-  i = record_instant (instant_of y cycle) k
+module _ (cycle : List ℕ) (y k : ℕ) (d : Result ℕ Refusal) (is : d ≡ instant_answer cycle y k) where
+  abbrev given : Ephemeris
+  given = ephemeris_in (i cycle y k) (column_of cycle k) (ephemeris_place k)
 
-  pub ephemeris_refused : (n : ℕ) (r : Ephemeris) → n ≡ refusal (dated_lines cycle y k) → (n ≡ 0 → ⊥) → r ≡ no_ephemeris n
-      → EphemerisPromise cycle y k r
+  pub ephemeris_refused : (e : Refusal) (r : Result Ephemeris Refusal) → d ≡ Err e → IsErrAnd r (λ (f : Refusal). f ≡ e) → EphemerisPromise cycle y k r
   unfolding ephemeris_of
-  ephemeris_refused n r e z f =
-      let a = is_refused (λ (u : Ephemeris). u.refusal) no_ephemeris (λ m. refl) (dated_lines cycle y k)
-      (ephemeris_in i (column_of cycle k) (ephemeris_place k)) n r e z f in
-      record { answer = a.0; in_step = λ q. absurd (a.1 q); exact = λ q. absurd (a.1 q) }
+  ephemeris_refused e (Ok a) f h = absurd h
+  ephemeris_refused e (Err g) f h =
+      let answer = refused-first (dated_lines cycle y k) (i cycle y k) (Ok given) e (Err g) (sym is ∙ f) h in
+      record { answer = answer; refusal_is = ap number_of answer ∙ numbered (dated_lines cycle y k) given; in_step = tt; exact = tt }
 
-  pub ephemeris_given : (c : List ℕ) (p t : ℕ) (r : Ephemeris) → refusal (dated_lines cycle y k) ≡ 0 → c ≡ column_of cycle k → p ≡ ephemeris_place k
-      → t ≡ i → EphemerisIn t c p r → EphemerisPromise cycle y k r
+  pub ephemeris_given : (t : ℕ) (c : List ℕ) (p : ℕ) (a : Ephemeris) → d ≡ Ok t → Dated cycle y k t → c ≡ column_of cycle k → p ≡ ephemeris_place k
+      → EphemerisIn t c p a → EphemerisPromise cycle y k (Ok a)
   unfolding ephemeris_of
-  ephemeris_given c p t r e f g h q =
-      let is : EphemerisIn i (column_of cycle k) (ephemeris_place k) r = rw (f, g, h) at q in
+  ephemeris_given t c p a e known f g h =
+      let same : EphemerisIn (i cycle y k) (column_of cycle k) (ephemeris_place k) a = rw (sym known.is, f, g) at h in
+      let answer = ap Ok same.answer ∙ left_over (dated_lines cycle y k) (i cycle y k) (Ok given) t (sym is ∙ e) in
       record {
-        answer = is_given (λ (u : Ephemeris). u.refusal) no_ephemeris (λ m. refl) (dated_lines cycle y k) _ r (dated_numbers cycle y k) e is.answer;
-        in_step = λ z. rw is.answer (dated_in_step cycle y k e);
-        exact = λ z. is.exact;
+        answer = answer;
+        refusal_is = ap number_of answer ∙ numbered (dated_lines cycle y k) given;
+        in_step = rw same.answer known.in_step_fact;
+        exact = same.exact;
       }

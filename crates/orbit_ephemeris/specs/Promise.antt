@@ -1,7 +1,10 @@
 -- What `read` promises: its complete answer; that its instant is in step with the cycle's time code; and that its doubles are exact, said over whole
 -- numbers. Nothing is written. Definitions only.
-use Rattle.std.specs.Prelude.{◌≡◌, List, ℕ, ◌+◌}
+use Rattle.std.specs.Prelude.{◌≡◌, List, ℕ, ◌+◌, Result, IfOk}
+use Rattle.base.specs.declared.refusal.Refusal.{Refusal}
+use Rattle.base.specs.Refusals.{refusal, number_of}
 use Rattle.cycle_records.specs.Columns.{column_of}
+use Rattle.cycle_records.specs.Lines.{dated_lines}
 use Rattle.cycle_columns.specs.Values.{word}
 use Rattle.cycle_columns.specs.Steps.{InStep}
 use Rattle.fixed_point.specs.Counts.{Exact}
@@ -23,7 +26,8 @@ pub record EphemerisIn (i : ℕ) (c : List ℕ) (p : ℕ) (r : Ephemeris) : Type
   pub exact : ExactEphemeris c p r
 
 -- of a cycle's bytes, the year y, and major frame k
-pub record EphemerisPromise (cycle : List ℕ) (y k : ℕ) (r : Ephemeris) : Type 0 where
+pub record EphemerisPromise (cycle : List ℕ) (y k : ℕ) (r : Result Ephemeris Refusal) : Type 0 where
   pub answer : r ≡ ephemeris_of cycle y k
-  pub in_step : r.refusal ≡ 0 → InStep cycle y k r.instant
-  pub exact : r.refusal ≡ 0 → ExactEphemeris (column_of cycle k) (ephemeris_place k) r
+  pub refusal_is : number_of r ≡ refusal (dated_lines cycle y k)
+  pub in_step : IfOk r (λ (given : Ephemeris). InStep cycle y k given.instant)
+  pub exact : IfOk r (ExactEphemeris (column_of cycle k) (ephemeris_place k))

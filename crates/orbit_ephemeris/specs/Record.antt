@@ -1,12 +1,12 @@
--- The ephemeris (DFCB 3.2.7.4.8, figure 24): places 50 to 73 of the major frames 0 and 2, 16 to 39 of 1 and 3; 2^−8 m and 2^−28 m/ms. Beside a
--- refusal every value is 0. Definitions only.
-use Rattle.std.specs.Prelude.{cond, List, ℕ, ◌+◌, ◌%◌, eqb}
-use Rattle.base.specs.Refusal.{answered}
+-- The ephemeris (DFCB 3.2.7.4.8, figure 24): places 50 to 73 of the major frames 0 and 2, 16 to 39 of 1 and 3; 2^−8 m and 2^−28 m/ms. Definitions only.
+use Rattle.std.specs.Prelude.{cond, List, ℕ, ◌+◌, ◌%◌, eqb, Result, Ok, Err}
+use Rattle.base.specs.declared.refusal.Refusal.{Refusal}
+use Rattle.base.specs.Refusals.{answered}
 use Rattle.cycle.specs.Cycle.{instant_of}
 use Rattle.cycle_records.specs.Columns.{column_of}
 use Rattle.cycle_records.specs.Instants.{record_instant}
 use Rattle.cycle_records.specs.Lines.{dated_lines}
-use Rattle.cycle_columns.specs.Values.{word, nought}
+use Rattle.cycle_columns.specs.Values.{word}
 use Rattle.fixed_point.specs.Counts.{scaled}
 use Rattle.orbit_ephemeris.specs.declared.Ephemeris.{Ephemeris}
 
@@ -15,7 +15,6 @@ ephemeris_place k = cond (eqb (k % 2) 0) 50 16
 
 abbrev pub ephemeris_in : ℕ → List ℕ → ℕ → Ephemeris
 ephemeris_in i c p = record {
-  refusal = 0;
   instant = i;
   x = scaled 8 (word c p);
   y = scaled 8 (word c (p + 4));
@@ -25,9 +24,6 @@ ephemeris_in i c p = record {
   vz = scaled 28 (word c (p + 20));
 }
 
-abbrev pub no_ephemeris : ℕ → Ephemeris
-no_ephemeris n = record { refusal = n; instant = 0; x = nought; y = nought; z = nought; vx = nought; vy = nought; vz = nought }
-
-unfoldable pub ephemeris_of : List ℕ → ℕ → ℕ → Ephemeris
+unfoldable pub ephemeris_of : List ℕ → ℕ → ℕ → Result Ephemeris Refusal
 ephemeris_of cycle y k =
-    answered no_ephemeris (dated_lines cycle y k) (ephemeris_in (record_instant (instant_of y cycle) k) (column_of cycle k) (ephemeris_place k))
+    answered Err (dated_lines cycle y k) (Ok (ephemeris_in (record_instant (instant_of y cycle) k) (column_of cycle k) (ephemeris_place k)))

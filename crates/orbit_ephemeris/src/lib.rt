@@ -2,11 +2,12 @@
 #![tactic(auto)]
 
 ghost use Rattle.std.specs.Prelude.{◌≡◌, ◌+◌, ◌≤◌, length};
-ghost use Rattle.orbit_ephemeris.specs.Record.{ephemeris_place, no_ephemeris};
+ghost use Rattle.orbit_ephemeris.specs.Record.{ephemeris_place};
 ghost use Rattle.orbit_ephemeris.specs.Promise.{EphemerisPromise, EphemerisIn};
 
+use base::refusal::Refusal;
 use cycle_columns::{column, value};
-use cycle_records::dated_refusal;
+use cycle_records::instant_in_year;
 
 // Binary places after the point: of a metre, and of a metre per millisecond.
 const POSITION: u8 = 8;
@@ -14,9 +15,8 @@ const POSITION: u8 = 8;
 const VELOCITY: u8 = 28;
 
 // Metres, and metres per millisecond.
-#[derive(Clone, Copy)]
+#[derive(Clone, Copy, Debug, PartialEq)]
 pub struct Ephemeris {
-    pub refusal: u8,
     pub instant: u64,
     pub x: f64,
     pub y: f64,
@@ -27,19 +27,12 @@ pub struct Ephemeris {
 }
 
 // Of major frame k. Refused 2, 13, 6, 17, 8.
-pub fn read(body: &[u8], year: u64, k: u64) -> Ephemeris
+pub fn read(body: &[u8], year: u64, k: u64) -> Result<Ephemeris, Refusal>
     ensures { EphemerisPromise body.now year k result }
 {
-    let number = dated_refusal(body, year, k);
-    if number != 0 {
-        return none(number);
-    }
+    let instant = instant_in_year(body, year, k)?;
     let column = column(body, k);
-    in_column(
-        &column,
-        first_place(k),
-        cycle_records::instant(body, year, k),
-    )
+    Ok(in_column(&column, first_place(k), instant))
 }
 
 // From its first place on.
@@ -48,8 +41,7 @@ fn in_column(column: &[u8], first: usize, instant: u64) -> Ephemeris
     ensures { EphemerisIn instant column.now first result }
 {
     Ephemeris {
-        refusal: 0,
-        instant: instant,
+        instant,
         x: value(column, first, POSITION),
         y: value(column, first + 4, POSITION),
         z: value(column, first + 8, POSITION),
@@ -67,19 +59,4 @@ fn first_place(k: u64) -> usize
         return 50;
     }
     16
-}
-
-fn none(number: u8) -> Ephemeris
-    ensures { result ≡ no_ephemeris number }
-{
-    Ephemeris {
-        refusal: number,
-        instant: 0,
-        x: 0.0,
-        y: 0.0,
-        z: 0.0,
-        vx: 0.0,
-        vy: 0.0,
-        vz: 0.0,
-    }
 }

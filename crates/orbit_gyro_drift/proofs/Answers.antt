@@ -1,36 +1,37 @@
--- The promise of `read`, from the answer on each way out: a refusal is the table's, and what is given is given where no line holds. Assumes nothing.
-use mathlib.Core.Path.{◌≡◌, refl}
-use mathlib.Core.List.{List}
-use Prim.Native.Nat.{ℕ}
-use Rattle.base.specs.Refusal.{refusal}
-use Rattle.cycle.specs.Cycle.{instant_of}
+-- The promise of `read`, on each way out: what is refused is refused by the lines, and what is given is given where none of them holds.
+-- Assumes nothing.
+use Rattle.std.proofs.Common.{◌≡◌, sym, ap, ◌∙◌, List, ℕ, Result, Ok, Err, IsErrAnd}
+use Rattle.base.specs.declared.refusal.Refusal.{Refusal}
+use Rattle.base.specs.Refusals.{number_of}
+use Rattle.base.proofs.Lines.{numbered}
 use Rattle.cycle_records.specs.Columns.{column_of}
-use Rattle.cycle_records.specs.Instants.{record_instant}
 use Rattle.cycle_records.specs.Lines.{dated_lines}
-use Rattle.cycle_records.proofs.Known.{dated_numbers, dated_in_step}
-use Rattle.cycle_columns.proofs.Answers.{is_refused, is_given}
+use Rattle.cycle_records.proofs.Known.{i, instant_answer, Dated}
+use Rattle.cycle_records.proofs.Refusals.{refused-first, left_over}
 use Rattle.orbit_gyro_drift.specs.declared.GyroDrift.{GyroDrift}
-use Rattle.orbit_gyro_drift.specs.Record.{no_gyro_drift, gyro_drift_in, gyro_drift_of}
+use Rattle.orbit_gyro_drift.specs.Record.{gyro_drift_in, gyro_drift_of}
 use Rattle.orbit_gyro_drift.specs.Promise.{DriftIn, GyroDriftPromise}
 
-module _ (cycle : List ℕ) (y : ℕ) where
-  abbrev i : ℕ
-  i = record_instant (instant_of y cycle) 0
+module _ (cycle : List ℕ) (y : ℕ) (d : Result ℕ Refusal) (is : d ≡ instant_answer cycle y 0) where
+  abbrev given : GyroDrift
+  given = gyro_drift_in (i cycle y 0) (column_of cycle 0)
 
-  pub drift_refused : (n : ℕ) (r : GyroDrift) → n ≡ refusal (dated_lines cycle y 0) → (n ≡ 0 → ⊥) → r ≡ no_gyro_drift n → GyroDriftPromise cycle y r
+  pub drift_refused : (e : Refusal) (r : Result GyroDrift Refusal) → d ≡ Err e → IsErrAnd r (λ (f : Refusal). f ≡ e) → GyroDriftPromise cycle y r
   unfolding gyro_drift_of
-  drift_refused n r e z f =
-      let given = gyro_drift_in i (column_of cycle 0) in
-      let a = is_refused (λ (u : GyroDrift). u.refusal) no_gyro_drift (λ m. refl) (dated_lines cycle y 0) given n r e z f in
-      record { answer = a.0; in_step = λ q. absurd (a.1 q); exact = λ q. absurd (a.1 q) }
+  drift_refused e (Ok a) f h = absurd h
+  drift_refused e (Err g) f h =
+      let answer = refused-first (dated_lines cycle y 0) (i cycle y 0) (Ok given) e (Err g) (sym is ∙ f) h in
+      record { answer = answer; refusal_is = ap number_of answer ∙ numbered (dated_lines cycle y 0) given; in_step = tt; exact = tt }
 
-  pub drift_given : (c : List ℕ) (t : ℕ) (r : GyroDrift) → refusal (dated_lines cycle y 0) ≡ 0 → c ≡ column_of cycle 0 → t ≡ i → DriftIn t c r
-      → GyroDriftPromise cycle y r
+  pub drift_given : (t : ℕ) (c : List ℕ) (a : GyroDrift) → d ≡ Ok t → Dated cycle y 0 t → c ≡ column_of cycle 0 → DriftIn t c a
+      → GyroDriftPromise cycle y (Ok a)
   unfolding gyro_drift_of
-  drift_given c t r e f g q =
-      let is : DriftIn i (column_of cycle 0) r = rw (f, g) at q in
+  drift_given t c a e known f h =
+      let same : DriftIn (i cycle y 0) (column_of cycle 0) a = rw (sym known.is, f) at h in
+      let answer = ap Ok same.answer ∙ left_over (dated_lines cycle y 0) (i cycle y 0) (Ok given) t (sym is ∙ e) in
       record {
-        answer = is_given (λ (u : GyroDrift). u.refusal) no_gyro_drift (λ m. refl) (dated_lines cycle y 0) _ r (dated_numbers cycle y 0) e is.answer;
-        in_step = λ z. rw is.answer (dated_in_step cycle y 0 e);
-        exact = λ z. is.exact;
+        answer = answer;
+        refusal_is = ap number_of answer ∙ numbered (dated_lines cycle y 0) given;
+        in_step = rw same.answer known.in_step_fact;
+        exact = same.exact;
       }

@@ -1,12 +1,13 @@
 -- A line of the records' values (docs/orbit.md): cycle, major frame, record, item, unit, value or refusal number, instant and its fields.
 -- Definitions only.
-use Rattle.std.specs.Prelude.{cond, List, [], ◌∷◌, ◌++◌, ℕ, ◌/◌, ◌%◌, eqb, Float, ℤ}
+use Rattle.std.specs.Prelude.{cond, List, [], ◌∷◌, ◌++◌, ℕ, ◌/◌, ◌%◌, eqb, Option, Some, None, Result, Ok, Err}
 use Prim.Native.String.{String}
+use Rattle.base.specs.declared.refusal.Refusal.{Refusal}
 use Rattle.base.specs.Lists.{concat_map}
+use Rattle.base.specs.Refusals.{number}
 use Rattle.command.specs.Lines.{line_in}
 use Rattle.command.specs.Text.{ascii, decimal}
-use Rattle.csv_fields.specs.Fields.{number_field, integer_text}
-use Rattle.double_text.specs.Decimal.{double_text}
+use Rattle.csv_fields.specs.Fields.{number_field}
 use Rattle.orbit_rows.specs.declared.Row.{Row}
 
 -- ---- an instant: sixteenths of a millisecond, from which the fields of a time code are counted
@@ -24,8 +25,9 @@ abbrev pub clock_text : ℕ → List ℕ
 clock_text instant = pair_text (instant / 960000 % 60) (instant / 16000 % 60) ++ pair_text (instant / 16 % 1000) (instant % 16)
 
 -- all fields are empty where there is no instant
-abbrev pub when_text : ℕ → ℕ → List ℕ
-when_text year instant = cond (eqb instant 0) (ascii ",,,,,,,,\n") ((date_text year instant ++ clock_text instant) ++ ascii "\n")
+abbrev pub when_text : ℕ → Option ℕ → List ℕ
+when_text year None = ascii ",,,,,,,,\n"
+when_text year (Some instant) = (date_text year instant ++ clock_text instant) ++ ascii "\n"
 
 -- ---- a line
 
@@ -64,15 +66,10 @@ name_text = concat_map (λ (s : String). ascii s ++ (0x0a ∷ [])) names
 abbrev pub start_text : Row → ℕ → List ℕ
 start_text row name = (decimal row.cycle ++ number_field row.frame) ++ line_in name_text name
 
-abbrev pub end_text : Row → List ℕ
-end_text row = refusal_text row.refusal ++ when_text row.year row.instant
+abbrev pub end_text : Row → ℕ → List ℕ
+end_text row number = refusal_text number ++ when_text row.year row.instant
 
--- a refused record has no value
-abbrev pub row_text : Row → ℕ → List ℕ → List ℕ
-row_text row name value = cond (eqb row.refusal 0) ((start_text row name ++ value) ++ end_text row) (start_text row name ++ end_text row)
-
-abbrev pub double_row : Row → ℕ → Float → List ℕ
-double_row row name value = row_text row name (double_text value)
-
-abbrev pub integer_row : Row → ℕ → ℤ → List ℕ
-integer_row row name value = row_text row name (integer_text value)
+-- of a value with this text; a refused record has no value
+abbrev pub row_text : {V : Type 0} → (V → List ℕ) → Row → ℕ → Result V Refusal → List ℕ
+row_text text row name (Ok value) = (start_text row name ++ text value) ++ end_text row 0
+row_text text row name (Err r) = start_text row name ++ end_text row (number r)

@@ -1,20 +1,23 @@
 // A value of a record of a cycle as a line of comma-separated values.
 #![tactic(auto)]
 
+ghost use Rattle.std.specs.Prelude.{List, ℕ};
 ghost use Rattle.command.specs.Text.{Adds};
-ghost use Rattle.orbit_rows.specs.Rows.{pair_text, date_text, clock_text, when_text, refusal_text, start_text, end_text, double_row, integer_row};
+ghost use Rattle.csv_fields.specs.Fields.{integer_text};
+ghost use Rattle.double_text.specs.Decimal.{double_text};
+ghost use Rattle.orbit_rows.specs.Rows.{pair_text, date_text, clock_text, when_text, refusal_text, start_text, end_text, row_text};
 
+use base::refusal::Refusal;
 use command::{put, put_byte, put_number};
 use csv_fields::put_number_field;
 
-// Which record a value is of: its cycle and major frame; its refusal, 0 for none; its year, and its instant, 0 where it has none.
-#[derive(Clone, Copy)]
+// Which record a value is of: its cycle, its major frame and its year; and its instant, where it has one.
+#[derive(Clone, Copy, Debug, PartialEq, Eq)]
 pub struct Row {
     pub cycle: u64,
     pub frame: u64,
-    pub refusal: u8,
     pub year: u64,
-    pub instant: u64,
+    pub instant: Option<u64>,
 }
 
 // The names of the values: record, item and unit.
@@ -61,28 +64,49 @@ const MINUTE: u64 = 960_000;
 
 const SECOND: u64 = 16_000;
 
-// The line of a value that is a double; of a refused record it has no value.
-pub fn put_double_row(out: &mut [u8], at: usize, row: Row, name: usize, value: f64) -> usize
-    ensures { Adds out.old at (double_row row name value) out.new result }
-{
-    let begun = put_start(&mut *out, at, row, name);
-    if row.refusal != 0 {
-        return put_end(out, begun, row);
-    }
-    let told = double_text::put_double(&mut *out, begun, value);
-    put_end(out, told, row)
+// What a record has in a line: a double or an integer.
+pub trait Value: Copy {
+    // Its text.
+    ghost text: { Self → List ℕ };
+
+    fn put(self, out: &mut [u8], at: usize) -> usize
+        ensures { Adds out.old at (text self) out.new result };
 }
 
-// The line of a value that is an integer; of a refused record it has no value.
-pub fn put_integer_row(out: &mut [u8], at: usize, row: Row, name: usize, value: i64) -> usize
-    ensures { Adds out.old at (integer_row row name value) out.new result }
+impl Value for f64 {
+    ghost text = { double_text };
+
+    fn put(self, out: &mut [u8], at: usize) -> usize {
+        double_text::put_double(out, at, self)
+    }
+}
+
+impl Value for i64 {
+    ghost text = { integer_text };
+
+    fn put(self, out: &mut [u8], at: usize) -> usize {
+        csv_fields::put_integer(out, at, self)
+    }
+}
+
+// The line of a value; of a refused record it has none.
+pub fn put_row<V: Value>(
+    out: &mut [u8],
+    at: usize,
+    row: Row,
+    name: usize,
+    value: Result<V, Refusal>,
+) -> usize
+    ensures { Adds out.old at (row_text V.text row name value) out.new result }
 {
     let begun = put_start(&mut *out, at, row, name);
-    if row.refusal != 0 {
-        return put_end(out, begun, row);
+    match value {
+        Ok(v) => {
+            let told = v.put(&mut *out, begun);
+            put_end(out, told, row, 0)
+        }
+        Err(refusal) => put_end(out, begun, row, refusal.number()),
     }
-    let told = csv_fields::put_integer(&mut *out, begun, value);
-    put_end(out, told, row)
 }
 
 fn put_start(out: &mut [u8], at: usize, row: Row, name: usize) -> usize
@@ -94,10 +118,10 @@ fn put_start(out: &mut [u8], at: usize, row: Row, name: usize) -> usize
     put(out, framed, command::line(names, name))
 }
 
-fn put_end(out: &mut [u8], at: usize, row: Row) -> usize
-    ensures { Adds out.old at (end_text row) out.new result }
+fn put_end(out: &mut [u8], at: usize, row: Row, number: u8) -> usize
+    ensures { Adds out.old at (end_text row number) out.new result }
 {
-    let refused = put_refusal(&mut *out, at, row.refusal as u64);
+    let refused = put_refusal(&mut *out, at, u64::from(number));
     put_when(out, refused, row.year, row.instant)
 }
 
@@ -111,15 +135,17 @@ fn put_refusal(out: &mut [u8], at: usize, number: u64) -> usize
 }
 
 // The instant as a number and in the fields of a time code; eight empty fields where there is none.
-fn put_when(out: &mut [u8], at: usize, year: u64, instant: u64) -> usize
+fn put_when(out: &mut [u8], at: usize, year: u64, instant: Option<u64>) -> usize
     ensures { Adds out.old at (when_text year instant) out.new result }
 {
-    if instant == 0 {
-        return put(out, at, b",,,,,,,,\n");
+    match instant {
+        Some(instant) => {
+            let dated = put_date(&mut *out, at, year, instant);
+            let timed = put_clock(&mut *out, dated, instant);
+            put_byte(out, timed, b'\n')
+        }
+        None => put(out, at, b",,,,,,,,\n"),
     }
-    let dated = put_date(&mut *out, at, year, instant);
-    let timed = put_clock(&mut *out, dated, instant);
-    put_byte(out, timed, b'\n')
 }
 
 fn put_date(out: &mut [u8], at: usize, year: u64, instant: u64) -> usize

@@ -1,37 +1,37 @@
--- The promise of `read`, from the answer on each way out: a refusal is the table's, and what is given is given where no line holds. Assumes nothing.
-use mathlib.Core.Path.{◌≡◌, refl, sym, ◌∙◌}
-use mathlib.Core.List.{List}
-use Prim.Native.Nat.{ℕ}
-use Rattle.base.specs.Refusal.{refusal}
-use Rattle.base.proofs.Refusals.{answered-append}
+-- The promise of `read`, on each way out: what is refused is refused by the lines, and what is given is given where none of them holds.
+-- Assumes nothing.
+use Rattle.std.proofs.Common.{◌≡◌, sym, ap, ◌∙◌, List, ℕ, Result, Ok, Err, IsErrAnd}
+use Rattle.base.specs.declared.refusal.Refusal.{Refusal}
+use Rattle.base.specs.Refusals.{number_of, answered, permitted}
+use Rattle.base.proofs.Lines.{answered-append, numbered}
 use Rattle.cycle_records.specs.Columns.{column_of}
 use Rattle.cycle_records.specs.Lines.{cycle_lines}
-use Rattle.cycle_records.proofs.Known.{cycle_numbers}
-use Rattle.cycle_columns.proofs.Answers.{is_refused, is_given}
+use Rattle.cycle_records.proofs.Refusals.{refused-first, left_over}
 use Rattle.orbit_temperatures.specs.declared.Temperatures.{Temperatures}
-use Rattle.orbit_temperatures.specs.Record.{no_temperatures, clear_line, temperatures_in, temperatures_of}
+use Rattle.orbit_temperatures.specs.Record.{clear_line, temperature_lines, temperatures_in, temperatures_of}
 use Rattle.orbit_temperatures.specs.Promise.{TemperaturesIn, TemperaturesPromise}
 
-module _ (cycle : List ℕ) (y k : ℕ) where
-  pub temperatures_refused : (n : ℕ) (r : Temperatures) → n ≡ refusal (cycle_lines cycle y k) → (n ≡ 0 → ⊥) → r ≡ no_temperatures n
-      → TemperaturesPromise cycle y k r
-  unfolding temperatures_of
-  temperatures_refused n r e z f =
-      let own = clear_line (column_of cycle k) in
-      let a = is_refused (λ (u : Temperatures). u.refusal) no_temperatures (λ m. refl) (cycle_lines cycle y k) _ n r e z f in
-      record {
-        answer = a.0 ∙ sym (answered-append no_temperatures (cycle_lines cycle y k) own (temperatures_in (column_of cycle k)));
-        exact = λ q. absurd (a.1 q);
-      }
+module _ (cycle : List ℕ) (y k : ℕ) (p : Result Unit Refusal) (is : p ≡ permitted (cycle_lines cycle y k)) where
+  abbrev given : Temperatures
+  given = temperatures_in (column_of cycle k)
 
-  pub temperatures_given : (c : List ℕ) (r : Temperatures) → refusal (cycle_lines cycle y k) ≡ 0 → c ≡ column_of cycle k → TemperaturesIn c r
-      → TemperaturesPromise cycle y k r
+  -- what the column answers
+  abbrev own : Result Temperatures Refusal
+  own = answered Err (clear_line (column_of cycle k)) (Ok given)
+
+  joined : answered Err (cycle_lines cycle y k) own ≡ answered Err (temperature_lines cycle y k) (Ok given)
+  joined = sym (answered-append Err (cycle_lines cycle y k) (clear_line (column_of cycle k)) (Ok given))
+
+  pub temperatures_refused : (e : Refusal) (r : Result Temperatures Refusal) → p ≡ Err e → IsErrAnd r (λ (f : Refusal). f ≡ e) → TemperaturesPromise cycle y k r
   unfolding temperatures_of
-  temperatures_given c r e f p =
-      let q : TemperaturesIn (column_of cycle k) r = rw f at p in
-      record {
-        answer =
-            is_given (λ (u : Temperatures). u.refusal) no_temperatures (λ m. refl) (cycle_lines cycle y k) _ r (cycle_numbers cycle y k) e q.answer
-            ∙ sym (answered-append no_temperatures (cycle_lines cycle y k) (clear_line (column_of cycle k)) (temperatures_in (column_of cycle k)));
-        exact = q.exact;
-      }
+  temperatures_refused e (Ok a) f h = absurd h
+  temperatures_refused e (Err g) f h =
+      let answer = refused-first (cycle_lines cycle y k) tt own e (Err g) (sym is ∙ f) h ∙ joined in
+      record { answer = answer; refusal_is = ap number_of answer ∙ numbered (temperature_lines cycle y k) given; exact = tt }
+
+  pub temperatures_given : (c : List ℕ) (r : Result Temperatures Refusal) → p ≡ Ok tt → c ≡ column_of cycle k → TemperaturesIn c r → TemperaturesPromise cycle y k r
+  unfolding temperatures_of
+  temperatures_given c r e f h =
+      let same : TemperaturesIn (column_of cycle k) r = rw f at h in
+      let answer = same.answer ∙ left_over (cycle_lines cycle y k) tt own tt (sym is ∙ e) ∙ joined in
+      record { answer = answer; refusal_is = ap number_of answer ∙ numbered (temperature_lines cycle y k) given; exact = same.exact }

@@ -1,9 +1,10 @@
--- The temperatures (DFCB 3.2.7.4.2, table 11): places 108 to 115 of every major frame. Beside a refusal every value is 0. Definitions only.
-use Rattle.std.specs.Prelude.{Bool, not, ◌&&◌, List, [], ◌∷◌, ◌++◌, ℕ, ◌+◌, ◌-◌, ◌*◌, ◌/◌, ◌%◌, eqb, Float, get_or}
-use Rattle.base.specs.Refusal.{Line, ◌when◌, answered}
+-- The temperatures (DFCB 3.2.7.4.2, table 11): places 108 to 115 of every major frame. Definitions only.
+use Rattle.std.specs.Prelude.{Bool, not, ◌&&◌, List, [], ◌∷◌, ◌++◌, ℕ, ◌+◌, ◌-◌, ◌*◌, ◌/◌, ◌%◌, eqb, Float, get_or, Result, Ok, Err}
+use Rattle.base.specs.declared.refusal.Refusal.{Refusal}
+use Rattle.base.specs.declared.refusal.Refusal.TheVariants.{UpperBitsSet}
+use Rattle.base.specs.Refusals.{Line, ◌when◌, answered}
 use Rattle.cycle_records.specs.Columns.{column_of}
 use Rattle.cycle_records.specs.Lines.{cycle_lines}
-use Rattle.cycle_columns.specs.Values.{nought}
 use Rattle.fixed_point.specs.Counts.{scaled}
 use Rattle.orbit_temperatures.specs.declared.Temperatures.{Temperatures}
 
@@ -30,22 +31,18 @@ upper_clear c = is_clear (get_or c 108 0) && is_clear (get_or c 110 0) && is_cle
 
 -- the line of a column
 abbrev pub clear_line : List ℕ → List Line
-clear_line column = 9 when not (upper_clear column) ∷ []
+clear_line column = UpperBitsSet when not (upper_clear column) ∷ []
 
 abbrev pub temperature_lines : List ℕ → ℕ → ℕ → List Line
 temperature_lines cycle y k = cycle_lines cycle y k ++ clear_line (column_of cycle k)
 
 abbrev pub temperatures_in : List ℕ → Temperatures
 temperatures_in c = record {
-  refusal = 0;
   temp1 = celsius (twelve_at c 108);
   temp2 = celsius (twelve_at c 110);
   temp3 = celsius (twelve_at c 112);
   temp4 = celsius (twelve_at c 114);
 }
 
-abbrev pub no_temperatures : ℕ → Temperatures
-no_temperatures n = record { refusal = n; temp1 = nought; temp2 = nought; temp3 = nought; temp4 = nought }
-
-unfoldable pub temperatures_of : List ℕ → ℕ → ℕ → Temperatures
-temperatures_of cycle y k = answered no_temperatures (temperature_lines cycle y k) (temperatures_in (column_of cycle k))
+unfoldable pub temperatures_of : List ℕ → ℕ → ℕ → Result Temperatures Refusal
+temperatures_of cycle y k = answered Err (temperature_lines cycle y k) (Ok (temperatures_in (column_of cycle k)))

@@ -3,6 +3,8 @@
 #![tactic(auto)]
 
 use base::format;
+use base::refusal;
+use base::refusal::Refusal;
 use orbit::attitude::Attitude;
 use orbit::clock::Clock;
 use orbit::ephemeris::Ephemeris;
@@ -17,12 +19,10 @@ const ROOM: usize = 65_664;
 fn main(rt: HostRuntime) -> io::Result<()> {
     let mut space = [0u8; ROOM];
     let area: &mut [u8] = &mut space;
-    let mut left = vectors::MOST_RECORDS;
-    while left > 0 {
+    for _ in 0..vectors::MOST_RECORDS {
         if !turn(&rt, &mut *area)? {
             return Ok(());
         }
-        left -= 1;
     }
     Ok(())
 }
@@ -38,10 +38,10 @@ fn turn(rt: &(impl Input + Print), area: &mut [u8]) -> io::Result<bool> {
     let value = number(&record[8..16]);
     let k = number(&record[16..24]);
     match record[0] {
-        1 => return Ok(load(rt, area)),
-        2 => return Ok(patch(area, n, value)),
-        3 => return ask(rt, area, n, value, k),
-        _ => return Ok(false),
+        1 => Ok(load(rt, area)),
+        2 => Ok(set(area, n, (value % 256) as u8)),
+        3 => ask(rt, area, n, value, k),
+        _ => Ok(false),
     }
 }
 
@@ -57,38 +57,32 @@ fn load(rt: &impl Input, area: &mut [u8]) -> bool {
 
 // Sync bytes, numbers and word 72 of the minor frames.
 fn put_frames(area: &mut [u8], columns: &[u8; 512]) {
-    let mut frame: usize = 0;
-    while frame < 512 {
+    for (frame, &word) in columns.iter().enumerate() {
         let start = format::MINOR_FRAME * frame;
         set(area, start, format::SYNC_WORD_0);
         set(area, start + 1, format::SYNC_WORD_1);
         set(area, start + 2, format::SYNC_WORD_2);
         set(area, start + format::NUMBER_PLACE, (frame % 128) as u8);
-        set(area, start + 72, columns[frame]);
-        frame += 1;
+        set(area, start + 72, word);
     }
 }
 
-fn set(area: &mut [u8], place: usize, value: u8) {
-    if place < area.len() {
-        area[place] = value;
+// Puts a byte; false beyond the area.
+fn set(area: &mut [u8], place: usize, value: u8) -> bool {
+    match area.get_mut(place) {
+        Some(byte) => {
+            *byte = value;
+            true
+        }
+        None => false,
     }
-}
-
-fn patch(area: &mut [u8], place: usize, value: u64) -> bool {
-    if area.len() <= place {
-        return false;
-    }
-    area[place] = (value % 256) as u8;
-    true
 }
 
 // All records of the first n bytes.
 fn ask(rt: &impl Print, area: &[u8], n: usize, year: u64, k: u64) -> io::Result<bool> {
-    if area.len() < n {
+    let Some(body) = area.get(..n) else {
         return Ok(false);
-    }
-    let body = &area[0..n];
+    };
     put_temperatures(rt, orbit::temperatures::read(body, year, k))?;
     put_gyro_drift(rt, orbit::gyro_drift::read(body, year))?;
     put_attitude(rt, orbit::attitude::read(body, year, k))?;
@@ -97,31 +91,26 @@ fn ask(rt: &impl Print, area: &[u8], n: usize, year: u64, k: u64) -> io::Result<
     Ok(true)
 }
 
-fn put_temperatures(rt: &impl Print, r: Temperatures) -> io::Result<()> {
-    field(rt, b"temperatures ", r.refusal as u64)?;
+fn put_temperatures(rt: &impl Print, answer: Result<Temperatures, Refusal>) -> io::Result<()> {
+    field(rt, b"temperatures ", u64::from(refusal::code(answer)))?;
     put(rt, b"\n")?;
-    put_double(rt, r.temp1)?;
-    put_double(rt, r.temp2)?;
-    put_double(rt, r.temp3)?;
-    put_double(rt, r.temp4)
+    put_doubles(rt, answer.map(|t| [t.temp1, t.temp2, t.temp3, t.temp4]))
 }
 
-fn put_gyro_drift(rt: &impl Print, r: GyroDrift) -> io::Result<()> {
-    field(rt, b"gyro drift ", r.refusal as u64)?;
-    field(rt, b" at ", r.instant)?;
+fn put_gyro_drift(rt: &impl Print, answer: Result<GyroDrift, Refusal>) -> io::Result<()> {
+    field(rt, b"gyro drift ", u64::from(refusal::code(answer)))?;
+    field(rt, b" at ", answer.map(|g| g.instant).unwrap_or(0))?;
     put(rt, b"\n")?;
-    put_double(rt, r.x)?;
-    put_double(rt, r.y)?;
-    put_double(rt, r.z)
+    put_doubles(rt, answer.map(|g| [g.x, g.y, g.z]))
 }
 
-fn put_attitude(rt: &impl Print, r: Attitude) -> io::Result<()> {
-    field(rt, b"attitude ", r.refusal as u64)?;
-    field(rt, b" at ", r.instant)?;
-    put_integer(rt, r.epa1)?;
-    put_integer(rt, r.epa2)?;
-    put_integer(rt, r.epa3)?;
-    put_integer(rt, r.epa4)?;
+fn put_attitude(rt: &impl Print, answer: Result<Attitude, Refusal>) -> io::Result<()> {
+    field(rt, b"attitude ", u64::from(refusal::code(answer)))?;
+    field(rt, b" at ", answer.map(|a| a.instant).unwrap_or(0))?;
+    let values = answer.map(|a| [a.epa1, a.epa2, a.epa3, a.epa4]);
+    for x in values.unwrap_or([0; 4]) {
+        put_integer(rt, x)?;
+    }
     put(rt, b"\n")
 }
 
@@ -138,23 +127,31 @@ fn put_integer(rt: &impl Print, x: i64) -> io::Result<()> {
     field(rt, b" ", (x + 2_147_483_648) as u64)
 }
 
-fn put_clock(rt: &impl Print, r: Clock) -> io::Result<()> {
-    field(rt, b"clock ", r.refusal as u64)?;
-    field(rt, b" bias ", r.bias)?;
-    field(rt, b" rate ", r.rate)?;
-    field(rt, b" acceleration ", r.acceleration)?;
+fn put_clock(rt: &impl Print, answer: Result<Clock, Refusal>) -> io::Result<()> {
+    field(rt, b"clock ", u64::from(refusal::code(answer)))?;
+    let terms = answer.map(|c| [c.bias, c.rate, c.acceleration]);
+    let [bias, rate, acceleration] = terms.unwrap_or([0; 3]);
+    field(rt, b" bias ", u64::from(bias))?;
+    field(rt, b" rate ", u64::from(rate))?;
+    field(rt, b" acceleration ", u64::from(acceleration))?;
     put(rt, b"\n")?;
-    put_double(rt, r.updated)
+    put_doubles(rt, answer.map(|c| [c.updated]))
 }
 
-fn put_ephemeris(rt: &impl Print, r: Ephemeris) -> io::Result<()> {
-    field(rt, b"ephemeris ", r.refusal as u64)?;
-    field(rt, b" at ", r.instant)?;
+fn put_ephemeris(rt: &impl Print, answer: Result<Ephemeris, Refusal>) -> io::Result<()> {
+    field(rt, b"ephemeris ", u64::from(refusal::code(answer)))?;
+    field(rt, b" at ", answer.map(|e| e.instant).unwrap_or(0))?;
     put(rt, b"\n")?;
-    put_double(rt, r.x)?;
-    put_double(rt, r.y)?;
-    put_double(rt, r.z)?;
-    put_double(rt, r.vx)?;
-    put_double(rt, r.vy)?;
-    put_double(rt, r.vz)
+    put_doubles(rt, answer.map(|e| [e.x, e.y, e.z, e.vx, e.vy, e.vz]))
+}
+
+// A record's doubles; zeros of one that is refused.
+fn put_doubles<const N: usize>(
+    rt: &impl Print,
+    values: Result<[f64; N], Refusal>,
+) -> io::Result<()> {
+    for x in values.unwrap_or([0.0; N]) {
+        put_double(rt, x)?;
+    }
+    Ok(())
 }

@@ -6,6 +6,7 @@
 mod records;
 
 use command::ErrorOutput;
+use records::Cycle;
 use std::io::Input;
 
 const HEADER: [u8; 101] =
@@ -42,7 +43,12 @@ fn write_cycles(rt: &(impl Input + Print + ErrorOutput), year: u64, area: &mut [
         if !read.whole {
             return !read.cut & !read.failed;
         }
-        if !records::show_cycle(rt, area, year, cycle) {
+        let found = Cycle {
+            body: area,
+            year,
+            number: cycle,
+        };
+        if !found.show(rt) {
             return false;
         }
         frames = read.frames;

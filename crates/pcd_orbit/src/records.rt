@@ -1,68 +1,113 @@
 // The records of a cycle, each as its lines.
+ghost use Rattle.std.specs.Prelude.{◌≤◌};
 ghost use Rattle.io.specs.Counts.{IsPrefixLen};
 
+use base::refusal::Refusal;
 use command::ErrorOutput;
-use orbit::attitude::Attitude;
-use orbit::clock::Clock;
-use orbit::ephemeris::Ephemeris;
-use orbit::gyro_drift::GyroDrift;
-use orbit::temperatures::Temperatures;
-use orbit_rows::{Row, put_double_row, put_integer_row};
+use orbit_rows::{ATTITUDE, CLOCK, EPHEMERIS, GYRO_DRIFT, Row, TEMPERATURES, Value, put_row};
 
 // Six lines, each with an exact double.
 const LINES: usize = 8192;
 
 const FRAMES: u64 = 4;
 
-// Writes the records of a cycle, first those of the whole cycle and then those of each major frame; true where all could be written.
-pub(crate) fn show_cycle(
-    rt: &(impl Print + ErrorOutput),
-    body: &[u8],
-    year: u64,
-    cycle: u64,
-) -> bool {
-    let mut space = [0u8; LINES];
-    show_cycle_in(rt, body, year, cycle, &mut space)
+// A cycle of standard input: its bytes, its year, and how many were before it.
+#[derive(Clone, Copy)]
+pub(crate) struct Cycle<'a> {
+    pub(crate) body: &'a [u8],
+    pub(crate) year: u64,
+    pub(crate) number: u64,
 }
 
-fn show_cycle_in(
-    rt: &(impl Print + ErrorOutput),
-    body: &[u8],
-    year: u64,
-    cycle: u64,
-    out: &mut [u8],
-) -> bool {
-    if !show_gyro_drift(rt, body, year, cycle, &mut *out) {
-        return false;
+impl<'a> Cycle<'a> {
+    // Writes its records, first those of the whole cycle and then those of each major frame; true where all could be written.
+    pub(crate) fn show(self, rt: &(impl Print + ErrorOutput)) -> bool {
+        let mut space = [0u8; LINES];
+        self.show_in(rt, &mut space)
     }
-    if !show_clock(rt, body, year, cycle, &mut *out) {
-        return false;
-    }
-    let mut frame: u64 = 0;
-    while frame < FRAMES {
-        if !show_frame(rt, body, year, cycle, frame, &mut *out) {
+
+    fn show_in(self, rt: &(impl Print + ErrorOutput), out: &mut [u8]) -> bool {
+        let drift = self.put_gyro_drift(&mut *out);
+        if !show(rt, out, drift) {
             return false;
         }
-        frame += 1;
+        let clock = self.put_clock(&mut *out);
+        if !show(rt, out, clock) {
+            return false;
+        }
+        for frame in 0..FRAMES {
+            if !self.show_frame(rt, frame, &mut *out) {
+                return false;
+            }
+        }
+        true
     }
-    true
-}
 
-fn show_frame(
-    rt: &(impl Print + ErrorOutput),
-    body: &[u8],
-    year: u64,
-    cycle: u64,
-    frame: u64,
-    out: &mut [u8],
-) -> bool {
-    if !show_ephemeris(rt, body, year, cycle, frame, &mut *out) {
-        return false;
+    fn show_frame(self, rt: &(impl Print + ErrorOutput), frame: u64, out: &mut [u8]) -> bool {
+        let ephemeris = self.put_ephemeris(frame, &mut *out);
+        if !show(rt, out, ephemeris) {
+            return false;
+        }
+        let attitude = self.put_attitude(frame, &mut *out);
+        if !show(rt, out, attitude) {
+            return false;
+        }
+        let temperatures = self.put_temperatures(frame, &mut *out);
+        show(rt, out, temperatures)
     }
-    if !show_attitude(rt, body, year, cycle, frame, &mut *out) {
-        return false;
+
+    fn row(self, frame: u64, instant: Option<u64>) -> Row {
+        Row {
+            cycle: self.number,
+            frame,
+            year: self.year,
+            instant,
+        }
     }
-    show_temperatures(rt, body, year, cycle, frame, out)
+
+    fn put_gyro_drift(self, out: &mut [u8]) -> usize
+        ensures { IsPrefixLen result out.new }
+    {
+        let answer = orbit::gyro_drift::read(self.body, self.year);
+        let row = self.row(0, answer.map(|g| g.instant).ok());
+        put_rows(out, 0, row, GYRO_DRIFT, answer.map(|g| [g.x, g.y, g.z]))
+    }
+
+    fn put_clock(self, out: &mut [u8]) -> usize
+        ensures { IsPrefixLen result out.new }
+    {
+        let answer = orbit::clock::read(self.body, self.year);
+        let row = self.row(0, None);
+        let updated = put_row(&mut *out, 0, row, CLOCK, answer.map(|c| c.updated));
+        let terms = answer.map(|c| [c.bias, c.rate, c.acceleration].map(i64::from));
+        put_rows(out, updated, row, CLOCK + 1, terms)
+    }
+
+    fn put_ephemeris(self, frame: u64, out: &mut [u8]) -> usize
+        ensures { IsPrefixLen result out.new }
+    {
+        let answer = orbit::ephemeris::read(self.body, self.year, frame);
+        let row = self.row(frame, answer.map(|e| e.instant).ok());
+        let values = answer.map(|e| [e.x, e.y, e.z, e.vx, e.vy, e.vz]);
+        put_rows(out, 0, row, EPHEMERIS, values)
+    }
+
+    fn put_attitude(self, frame: u64, out: &mut [u8]) -> usize
+        ensures { IsPrefixLen result out.new }
+    {
+        let answer = orbit::attitude::read(self.body, self.year, frame);
+        let row = self.row(frame, answer.map(|a| a.instant).ok());
+        let values = answer.map(|a| [a.epa1, a.epa2, a.epa3, a.epa4]);
+        put_rows(out, 0, row, ATTITUDE, values)
+    }
+
+    fn put_temperatures(self, frame: u64, out: &mut [u8]) -> usize
+        ensures { IsPrefixLen result out.new }
+    {
+        let answer = orbit::temperatures::read(self.body, self.year, frame);
+        let values = answer.map(|t| [t.temp1, t.temp2, t.temp3, t.temp4]);
+        put_rows(out, 0, self.row(frame, None), TEMPERATURES, values)
+    }
 }
 
 // Writes the text that ends at `end`.
@@ -72,161 +117,20 @@ fn show(rt: &(impl Print + ErrorOutput), out: &[u8], end: usize) -> bool
     command::show(rt, b"pcd-orbit", &out[..end])
 }
 
-fn row_of(cycle: u64, frame: u64, year: u64, refusal: u8, instant: u64) -> Row {
-    Row {
-        cycle: cycle,
-        frame: frame,
-        refusal: refusal,
-        year: year,
-        instant: instant,
+// The lines of a record's values behind the first `at` bytes, with the names from `first` on.
+fn put_rows<V: Value, const N: usize>(
+    out: &mut [u8],
+    at: usize,
+    row: Row,
+    first: usize,
+    values: Result<[V; N], Refusal>,
+) -> usize
+    requires { (first ≤ 20) × (N ≤ 6) × (IsPrefixLen at out.old) }
+    ensures { IsPrefixLen result out.new }
+{
+    let mut end = at;
+    for i in 0..N {
+        end = put_row(&mut *out, end, row, first + i, values.map(|v| v[i]));
     }
-}
-
-fn show_gyro_drift(
-    rt: &(impl Print + ErrorOutput),
-    body: &[u8],
-    year: u64,
-    cycle: u64,
-    out: &mut [u8],
-) -> bool {
-    let drift = orbit::gyro_drift::read(body, year);
-    let row = row_of(cycle, 0, year, drift.refusal, drift.instant);
-    let end = put_drift(&mut *out, row, drift);
-    show(rt, out, end)
-}
-
-fn put_drift(out: &mut [u8], row: Row, drift: GyroDrift) -> usize
-    ensures { IsPrefixLen result out.new }
-{
-    let a = put_double_row(&mut *out, 0, row, orbit_rows::GYRO_DRIFT, drift.x);
-    let b = put_double_row(&mut *out, a, row, orbit_rows::GYRO_DRIFT + 1, drift.y);
-    put_double_row(out, b, row, orbit_rows::GYRO_DRIFT + 2, drift.z)
-}
-
-fn show_clock(
-    rt: &(impl Print + ErrorOutput),
-    body: &[u8],
-    year: u64,
-    cycle: u64,
-    out: &mut [u8],
-) -> bool {
-    let clock = orbit::clock::read(body, year);
-    let row = row_of(cycle, 0, year, clock.refusal, 0);
-    let end = put_clock(&mut *out, row, clock);
-    show(rt, out, end)
-}
-
-fn put_clock(out: &mut [u8], row: Row, clock: Clock) -> usize
-    ensures { IsPrefixLen result out.new }
-{
-    let a = put_double_row(&mut *out, 0, row, orbit_rows::CLOCK, clock.updated);
-    let b = put_integer_row(&mut *out, a, row, orbit_rows::CLOCK + 1, count(clock.bias));
-    let c = put_integer_row(&mut *out, b, row, orbit_rows::CLOCK + 2, count(clock.rate));
-    put_integer_row(
-        out,
-        c,
-        row,
-        orbit_rows::CLOCK + 3,
-        count(clock.acceleration),
-    )
-}
-
-// A count of 16 bits.
-fn count(n: u64) -> i64 {
-    (n % 65_536) as i64
-}
-
-fn show_ephemeris(
-    rt: &(impl Print + ErrorOutput),
-    body: &[u8],
-    year: u64,
-    cycle: u64,
-    frame: u64,
-    out: &mut [u8],
-) -> bool {
-    let ephemeris = orbit::ephemeris::read(body, year, frame);
-    let row = row_of(cycle, frame, year, ephemeris.refusal, ephemeris.instant);
-    let end = put_ephemeris(&mut *out, row, ephemeris);
-    show(rt, out, end)
-}
-
-fn put_ephemeris(out: &mut [u8], row: Row, ephemeris: Ephemeris) -> usize
-    ensures { IsPrefixLen result out.new }
-{
-    let a = put_double_row(&mut *out, 0, row, orbit_rows::EPHEMERIS, ephemeris.x);
-    let b = put_double_row(&mut *out, a, row, orbit_rows::EPHEMERIS + 1, ephemeris.y);
-    let c = put_double_row(&mut *out, b, row, orbit_rows::EPHEMERIS + 2, ephemeris.z);
-    let d = put_double_row(&mut *out, c, row, orbit_rows::EPHEMERIS + 3, ephemeris.vx);
-    let e = put_double_row(&mut *out, d, row, orbit_rows::EPHEMERIS + 4, ephemeris.vy);
-    put_double_row(out, e, row, orbit_rows::EPHEMERIS + 5, ephemeris.vz)
-}
-
-fn show_attitude(
-    rt: &(impl Print + ErrorOutput),
-    body: &[u8],
-    year: u64,
-    cycle: u64,
-    frame: u64,
-    out: &mut [u8],
-) -> bool {
-    let attitude = orbit::attitude::read(body, year, frame);
-    let row = row_of(cycle, frame, year, attitude.refusal, attitude.instant);
-    let end = put_attitude(&mut *out, row, attitude);
-    show(rt, out, end)
-}
-
-fn put_attitude(out: &mut [u8], row: Row, attitude: Attitude) -> usize
-    ensures { IsPrefixLen result out.new }
-{
-    let a = put_integer_row(&mut *out, 0, row, orbit_rows::ATTITUDE, attitude.epa1);
-    let b = put_integer_row(&mut *out, a, row, orbit_rows::ATTITUDE + 1, attitude.epa2);
-    let c = put_integer_row(&mut *out, b, row, orbit_rows::ATTITUDE + 2, attitude.epa3);
-    put_integer_row(out, c, row, orbit_rows::ATTITUDE + 3, attitude.epa4)
-}
-
-fn show_temperatures(
-    rt: &(impl Print + ErrorOutput),
-    body: &[u8],
-    year: u64,
-    cycle: u64,
-    frame: u64,
-    out: &mut [u8],
-) -> bool {
-    let temperatures = orbit::temperatures::read(body, year, frame);
-    let row = row_of(cycle, frame, year, temperatures.refusal, 0);
-    let end = put_temperatures(&mut *out, row, temperatures);
-    show(rt, out, end)
-}
-
-fn put_temperatures(out: &mut [u8], row: Row, temperatures: Temperatures) -> usize
-    ensures { IsPrefixLen result out.new }
-{
-    let a = put_double_row(
-        &mut *out,
-        0,
-        row,
-        orbit_rows::TEMPERATURES,
-        temperatures.temp1,
-    );
-    let b = put_double_row(
-        &mut *out,
-        a,
-        row,
-        orbit_rows::TEMPERATURES + 1,
-        temperatures.temp2,
-    );
-    let c = put_double_row(
-        &mut *out,
-        b,
-        row,
-        orbit_rows::TEMPERATURES + 2,
-        temperatures.temp3,
-    );
-    put_double_row(
-        out,
-        c,
-        row,
-        orbit_rows::TEMPERATURES + 3,
-        temperatures.temp4,
-    )
+    end
 }

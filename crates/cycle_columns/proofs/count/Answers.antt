@@ -4,5 +4,5 @@ use Rattle.cycle_columns.proofs.count.Goals as goal
 
 pub returns : goal.returns
 returns c =
-    count-is c.args.width c.args.column.now c.args.place _ _ _ c.requires c.least-start.ensures c.least.ensures
+    count-is c.args.width c.args.column.now c.args.place _ _ _ c.requires c.min-start.ensures c.min.ensures
     c.read.ensures

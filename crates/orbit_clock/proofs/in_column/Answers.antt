@@ -1,7 +1,5 @@
--- `orbit_clock::in_column` meets its contract: each answer of the codec is a case of the record. Assumes nothing.
-use mathlib.Core.Path.{◌≡◌}
-use native.Mathlib.Omega.{arith}
-use lib.ListN.{length, length-take, length-drop}
+-- `orbit_clock::in_column` meets its contract: the codec refuses for the record, and its number is the record's. Assumes nothing.
+use Rattle.std.proofs.Common.{◌≡◌, arith, length, length-take, length-drop}
 use Rattle.orbit_clock.specs.Record.{clock_update}
 use Rattle.orbit_clock.proofs.Columns.{clock_read, clock_unread}
 use Rattle.orbit_clock.proofs.in_column.Goals as goal
@@ -9,13 +7,13 @@ use Rattle.orbit_clock.proofs.in_column.Goals.{Start}
 
 -- the part that is read has six bytes
 six : (s : Start) → length (clock_update s.args.column.now) ≡ 6
-six s = simp (length-take, length-drop) (omega (arith, s.requires))
+six s = simp (length-take, length-drop) (omega (arith, s.told-column))
 
-pub returns-in-Ok : goal.returns-in-Ok
-returns-in-Ok c =
-    clock_read c.args.column.now (six (goal.at.returns-in-Ok c).Start) _ _ _ _ _ c.decode.ensures c.in-Ok.is c.count16.ensures
-    c.count16-in-Ok.ensures c.count16-in-Ok-2.ensures
+pub returns-in_err-updated : goal.returns-in_err-updated
+returns-in_err-updated c =
+    clock_unread c.args.column.now (six (goal.at.returns-in_err-updated c).Start) _ c.decode.ensures _ _ c.in_err-updated.was c.from_residual.ensures.1
 
-pub returns-in-Err : goal.returns-in-Err
-returns-in-Err c =
-    clock_unread c.args.column.now (six (goal.at.returns-in-Err c).Start) _ _ _ _ c.decode.ensures c.in-Err.is c.number.ensures c.none.ensures
+pub returns : goal.returns
+returns c =
+    clock_read c.args.column.now (six (goal.at.returns c).Start) _ c.decode.ensures _ _ _ _ c.in_ok-updated.was c.count16.ensures
+    c.count16-2.ensures c.count16-3.ensures

@@ -1,19 +1,18 @@
 -- `orbit_clock::read` meets its contract. Assumes nothing.
-use mathlib.Core.Path.{sym, ◌∙◌}
+use Rattle.std.proofs.Common.{sym, ◌∙◌}
 use Rattle.cycle_records.proofs.Known.{to-cycle}
 use Rattle.cycle_columns.proofs.Gathering.{column-given}
 use Rattle.orbit_clock.proofs.Answers.{clock_refused, clock_given}
 use Rattle.orbit_clock.proofs.read.Goals as goal
 
-pub returns-then-number-ne0 : goal.returns-then-number-ne0
-returns-then-number-ne0 c =
+pub returns-in_err-check_cycle : goal.returns-in_err-check_cycle
+returns-in_err-check_cycle c =
     let a = c.args in
-    clock_refused a.body.now a.year _ _ c.cycle_refusal-number.ensures c.if-number-ne0.true c.none.ensures
+    clock_refused a.body.now a.year _ c.check_cycle.ensures _ _ c.in_err-check_cycle.was c.from_residual.ensures.1
 
 pub returns : goal.returns
 returns c =
     let a = c.args in
-    let accepted = sym c.cycle_refusal-number.ensures ∙ c.if-number-ne0.false in
-    let word72 = column-given a.body.now 0 (to-cycle a.body.now a.year 0 accepted) c.column-column.ensures.0 in
-    clock_given a.body.now a.year _ _ accepted word72
-    c.in_column.ensures
+    let known = to-cycle a.body.now a.year 0 (sym c.check_cycle.ensures ∙ c.in_ok-check_cycle.was) in
+    let word72 = column-given a.body.now 0 known c.column-column.ensures.0 in
+    clock_given a.body.now a.year _ c.check_cycle.ensures _ _ c.in_ok-check_cycle.was word72 c.in_column.ensures

@@ -4,8 +4,7 @@ use Rattle.orbit_temperatures.proofs.in_column.Goals as goal
 
 pub returns-then-not-upper_clear : goal.returns-then-not-upper_clear
 returns-then-not-upper_clear c =
-    temperatures_unclear c.args.column.now _ _ c.upper_clear.ensures c.if-not-upper_clear.true
-    c.none.ensures
+    temperatures_unclear c.args.column.now _ c.upper_clear.ensures c.if-not-upper_clear.true
 
 pub returns : goal.returns
 returns c =
