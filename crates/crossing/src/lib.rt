@@ -7,6 +7,7 @@ mod operator;
 
 ghost use Rattle.crossing.specs.Crossing.{lent, TakeCrossed, FreshCrossed};
 
+use base::refusal;
 pub use lock::take_to_lock;
 pub use operator::change_duty;
 use tally_numbers::{NUMBERS, flag, put_tally};
@@ -19,7 +20,7 @@ pub fn fresh(rule: u64, numbers: &mut [u64; NUMBERS], frame: &mut [u8; 128]) -> 
     let r = reader::fresh(rule);
     let t = r.tally;
     put_tally(t, numbers, frame);
-    r.refusal
+    refusal::code(r.answer)
 }
 
 // Takes a piece of the stream. Returns the number of the refusal, 0 for none; a refusal writes nothing. `answer` gets the bytes taken, then

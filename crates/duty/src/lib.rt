@@ -6,41 +6,23 @@ ghost use Rattle.labelling.specs.Operators.{on_duty};
 ghost use Rattle.labelling.specs.Machine.{with_operators};
 ghost use Rattle.duty.specs.Change.{duty_call_of, DutyPromise};
 
-use base::refusal::{NO_SUCH_OPERATOR, NOT_IN_ORDER};
+use base::refusal::Refusal;
 use labelling::Tally;
 use order::in_order;
 
 pub const LAST_OPERATOR: u64 = 7;
 
-// The answer of a call that names an operator.
-#[derive(Clone, Copy)]
-pub struct DutyChanged {
-    // 0, or the number of the refusal: the tally is not in order, or there is no such operator.
-    pub refusal: u8,
-    pub tally: Tally,
-}
-
-// Puts an operator on duty, and changes nothing else. A refusal returns the tally unchanged.
-pub fn change_duty(t: Tally, operator: u64) -> DutyChanged
+// Puts an operator on duty, and changes nothing else. Refused 1: the tally is not in order. Refused 14: there is no such operator.
+pub fn change_duty(t: Tally, operator: u64) -> Result<Tally, Refusal>
     ensures { DutyPromise (duty_call_of t operator) result }
 {
     if !in_order(t) {
-        return DutyChanged {
-            refusal: NOT_IN_ORDER,
-            tally: t,
-        };
+        return Err(Refusal::NotInOrder);
     }
     if operator > LAST_OPERATOR {
-        return DutyChanged {
-            refusal: NO_SUCH_OPERATOR,
-            tally: t,
-        };
+        return Err(Refusal::NoSuchOperator);
     }
-    let next = on_duty(t, operator);
-    DutyChanged {
-        refusal: 0,
-        tally: next,
-    }
+    Ok(on_duty(t, operator))
 }
 
 // The tally with this operator on duty.

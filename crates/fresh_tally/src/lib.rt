@@ -2,17 +2,18 @@
 #![tactic(auto)]
 
 ghost use Rattle.std.specs.Prelude.{◌≡◌};
+ghost use Rattle.base.specs.Refusals.{number_of};
 ghost use Rattle.labelling.specs.Once.{FreshPromise};
 ghost use Rattle.labelling.specs.Machine.{fresh as fresh_of};
 
-use base::refusal::NO_SUCH_RULE;
+use base::refusal::Refusal;
 use labelling::{Framing, Groups, Operators, Runs, Tally, Weak};
 
-// The answer where a fresh tally is asked for.
+// The answer where a fresh tally is asked for. It is no Result of a tally: a refusal gives one too, that of rule 1, and `FreshPromise` speaks of it.
 #[derive(Clone, Copy)]
 pub struct FreshTally {
-    // 0, or the number of the refusal: there is no such rule. The tally is then that of rule 1.
-    pub refusal: u8,
+    // Whether there is such a rule. Refused 15: there is none.
+    pub answer: Result<(), Refusal>,
     pub tally: Tally,
 }
 
@@ -20,16 +21,16 @@ pub struct FreshTally {
 // of calls of `take` and `change_duty` that begins with it, each major frame of the bytes is paid exactly once, to whoever was on duty, and each
 // count is that of the labelling of the bytes.
 pub fn fresh(rule: u64) -> FreshTally
-    ensures { FreshPromise rule result.refusal result.tally }
+    ensures { FreshPromise rule (number_of result.answer) result.tally }
 {
     if (rule == 1) | (rule == 2) {
         return FreshTally {
-            refusal: 0,
+            answer: Ok(()),
             tally: blank(rule),
         };
     }
     FreshTally {
-        refusal: NO_SUCH_RULE,
+        answer: Err(Refusal::NoSuchRule),
         tally: blank(1),
     }
 }

@@ -5,6 +5,7 @@ use mathlib.Core.List.{List, [], ◌∷◌, ◌++◌}
 use Prim.Native.Nat.{ℕ, zero, suc, ◌+◌, ◌^◌, ◌≤◌, ◌<◌}
 use native.Mathlib.Nat.{add-zero}
 use native.Mathlib.Omega.{arith}
+use Rattle.std.specs.Prelude.{Ok}
 use lib.ListN.{length, get_or, set, length-set, length-append}
 use lib.Seq.{set-append_left, set-get_or}
 use Rattle.base.specs.Lists.{one}
@@ -152,16 +153,16 @@ module _ (n frame piece area : List ℕ) (d : TakeCall) where
   lock_told next r numbers frame' area' p locked k = record { in_place = p; promised = promised }
     where
       taken : Taken
-      taken = record { refusal = 0; taken = r.taken; complete = r.complete; tally = (answer (to_lock d)).tally }
+      taken = record { taken = r.taken; complete = r.complete; tally = (answer (to_lock d)).tally }
 
-      promised : r.refusal ≡ 0 → LockPromise d (record { taken = taken; locked = locked }) area'
+      promised : r.refusal ≡ 0 → LockPromise d (Ok (record { taken = taken; locked = locked })) area'
       promised z =
           let so = next (sym (p.refusal_is (tally_accepted asked (to_lock d) n r numbers frame' area' p z)) ∙ z) in
           let e = so.0 in
           let left = p.accepted z in
           let same : answer_of taken area' ≡ answer (to_lock d) = rw (left.area_is, left.taken_is, left.complete_is) in
           let e' = part-accepted d e in
-          let part : PartPromise true d taken area' = accepted-part e (accepted-promise refl e' (same ∙ accepted-answer (to_lock d) e')) in
+          let part : PartPromise true d (Ok taken) area' = accepted-part e (accepted-promise e' (same ∙ accepted-answer (to_lock d) e')) in
           let after : framing_of numbers ≡ (answer (to_lock d)).tally.framing =
           ap framing_of left.numbers_is ∙ framing_back (answer (to_lock d)).tally in
           lock_promise part locked (k ∙ so.1 (framing_of numbers) ∙ ap (λ (f : Framing). locked_by d.tally.framing f) after)

@@ -1,5 +1,5 @@
 -- A call of the reader on a tally that is lent as its numbers and its frame: what is left in their places. Definitions only.
-use Rattle.std.specs.Prelude.{◌≡◌, Bool, true, false, List, ℕ}
+use Rattle.std.specs.Prelude.{◌≡◌, Bool, true, false, List, ℕ, Ok}
 use Rattle.labelling.specs.Calls.{TakeCall, Answer, answer, take_refusal}
 use Rattle.own_sync.specs.Locks.{to_lock}
 use Rattle.plain_steps.specs.declared.layers.Layers.{Layers}
@@ -51,14 +51,14 @@ InPlace stop c = Answered c (part_of stop c)
 -- an accepted call as far as a lock, as the reader answers it
 abbrev pub locked_of : TakeCall → Locked → ReaderLocked
 locked_of c r = record {
-  taken = record { refusal = 0; taken = r.part.taken; complete = r.part.complete; tally = (answer (to_lock c)).tally };
+  taken = record { taken = r.part.taken; complete = r.part.complete; tally = (answer (to_lock c)).tally };
   locked = r.locked;
 }
 
 -- the same of a call as far as a lock: it answers as the part of d, and what the reader promises of d holds
 pub record LockAnswered (c d : TakeCall) (n : List ℕ) (r : Locked) (numbers frame area : List ℕ) : Type 0 where
   pub in_place : Answered c (to_lock d) n r.part numbers frame area
-  pub promised : r.part.refusal ≡ 0 → LockPromise d (locked_of d r) area
+  pub promised : r.part.refusal ≡ 0 → LockPromise d (Ok (locked_of d r)) area
 
 -- `take_to_lock` of the call c
 abbrev pub LockedInPlace : TakeCall → List ℕ → Locked → List ℕ → List ℕ → List ℕ → Type 0

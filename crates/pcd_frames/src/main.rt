@@ -10,6 +10,7 @@ ghost use Rattle.std.specs.Prelude.{◌≡◌, ◌+◌};
 ghost use Rattle.reel_state.specs.Reading.{blank};
 ghost use Rattle.frames_state.specs.Frames.{AllWritten, Came, SameReel, ShiftChanged, AllRead};
 
+use base::refusal::Refusal;
 use command::ErrorOutput;
 use frames_state::{State, ended, undone, wrote};
 use reel_reading::{Event, Source};
@@ -167,8 +168,8 @@ fn done_with(
         Event::Unreadable => {
             return undone(s);
         }
-        Event::Refused(number) => {
-            return refused(rt, s, number);
+        Event::Refused(refusal) => {
+            return refused(rt, s, refusal);
         }
     }
 }
@@ -222,10 +223,10 @@ fn begins(shifts: &[u8], k: usize) -> u64 {
     }
 }
 
-fn refused(rt: &impl ErrorOutput, s: State, number: u8) -> State
+fn refused(rt: &impl ErrorOutput, s: State, refusal: Refusal) -> State
     ensures { SameReel s result }
 {
-    command::refuse(rt, b"pcd-frames", b"the reel", number);
+    command::refuse(rt, b"pcd-frames", b"the reel", refusal.number());
     let mut r = s;
     r.done = false;
     r.goes_on = false;

@@ -5,6 +5,7 @@
 
 mod picture;
 
+use base::refusal::Refusal;
 use command::ErrorOutput;
 use picture::Told;
 use reel_map::Map;
@@ -124,8 +125,8 @@ fn done_with(rt: &impl ErrorOutput, event: Event, s: State, cells: &mut [u8]) ->
         Event::Unreadable => {
             return undone(s);
         }
-        Event::Refused(number) => {
-            return refused(rt, s, number, cells);
+        Event::Refused(refusal) => {
+            return refused(rt, s, refusal, cells);
         }
     }
 }
@@ -158,8 +159,8 @@ fn undone(s: State) -> State {
     r
 }
 
-fn refused(rt: &impl ErrorOutput, s: State, number: u8, cells: &mut [u8]) -> State {
-    command::refuse(rt, b"pcd-map", b"the reel", number);
+fn refused(rt: &impl ErrorOutput, s: State, refusal: Refusal, cells: &mut [u8]) -> State {
+    command::refuse(rt, b"pcd-map", b"the reel", refusal.number());
     let mut r = ended(s, cells);
     r.done = false;
     r

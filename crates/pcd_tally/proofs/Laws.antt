@@ -12,6 +12,9 @@ use borrow.Author.Tests.{ltb-true, ltb-false, eqb-false, ne_eqb}
 use Rattle.std.specs.Prelude.{Result, Ok, Err, min}
 use Rattle.std.proofs.lemmas.List.{take_min}
 use Rattle.std.specs.declared.io.Error.{Error}
+use Rattle.base.specs.declared.refusal.Refusal.{Refusal}
+use Rattle.base.specs.Refusals.{number_of}
+use Rattle.base.proofs.Lines.{positive}
 use Rattle.labelling.specs.declared.Tally.{Tally}
 use Rattle.labelling.specs.Machine.{fresh}
 use Rattle.labelling.specs.Calls.{take_refusal, done}
@@ -63,12 +66,8 @@ module _ {n : ℕ} {t : Tally} {a : List ℕ} (h : ReadSoFar n t a) where
 -- ---- a piece
 
 -- a stream's bytes are taken, or none
-pub taken-within : (t : Tally) (stream old new : List ℕ) {f : Fed} → FeedPromise t stream old f new → f.taken ≤ length stream
-taken-within t stream old new {f} p = go (eqb f.refusal 0) p.taken_is
-  where
-    go : (b : Bool) → f.taken ≡ cond b (length stream) 0 → f.taken ≤ length stream
-    go true e = omega arith
-    go false e = omega arith
+pub taken-within : (t : Tally) (stream old new : List ℕ) {f : Fed} → FeedPromise t stream old (Ok f) new → f.taken ≤ length stream
+taken-within t stream old new {f} p = omega (arith, p.taken_is)
 
 -- what is carried on is read so far
 pub reads_more : {s r : State} {bytes old new : List ℕ} → ReadSoFar s.read s.tally old → Carried s bytes old r new → ReadSoFar r.read r.tally new
@@ -82,26 +81,28 @@ reads_more h k = record {
 pub carries_nothing : (s : State) (input : Input) (a : List ℕ) → Carried s [] a (record { tally = s.tally; read = s.read; input = input }) a
 carries_nothing s input a = record { calls = []; handed = done; joined_is = joined-none; read_is = omega arith }
 
-module _ (s : State) (piece old new : List ℕ) (f : Fed) (h : ReadSoFar s.read s.tally old) (p : FeedPromise s.tally piece old f new) where
-  refusal-as : f.refusal ≡ cond (too_many s.read piece) 3 0
-  refusal-as = p.refusal_is ∙ refused_as h piece
+module _ (s : State) (piece old new : List ℕ) (h : ReadSoFar s.read s.tally old) where
+  refusal-as : (r : Result Fed Refusal) → FeedPromise s.tally piece old r new → number_of r ≡ cond (too_many s.read piece) 3 0
+  refusal-as r p = p.refusal_is ∙ refused_as h piece
 
-  pub piece_refused : (f.refusal ≡ 0 → ⊥) → FedPromise s piece old (record { tally = f.tally; read = s.read; input = TooLong }) new
-  piece_refused z = go (too_many s.read piece) refl
+  pub piece_refused : (e : Refusal) → FeedPromise s.tally piece old (Err e) new
+      → FedPromise s piece old (record { tally = s.tally; read = s.read; input = TooLong }) new
+  piece_refused e p = go (too_many s.read piece) refl
     where
-      go : (b : Bool) → too_many s.read piece ≡ b → FedPromise s piece old (record { tally = f.tally; read = s.read; input = TooLong }) new
-      go true e =
-          let same = p.refused 2 (rw e at refusal-as) in
-          rw (same.0, same.1) (record { input_is = rw e; carried = rw e (carries_nothing s TooLong old) })
-      go false e = absurd (z (rw e at refusal-as))
+      go : (b : Bool) → too_many s.read piece ≡ b → FedPromise s piece old (record { tally = s.tally; read = s.read; input = TooLong }) new
+      go true is =
+          let same = p.refused 2 (rw is at (refusal-as (Err e) p)) in
+          rw same.1 (record { input_is = rw is; carried = rw is (carries_nothing s TooLong old) })
+      go false is = absurd (positive e (rw is at (refusal-as (Err e) p)))
 
-  pub piece_taken : f.refusal ≡ 0 → FedPromise s piece old (record { tally = f.tally; read = s.read + f.taken; input = More }) new
-  piece_taken z = go (too_many s.read piece) refl
+  pub piece_taken : (f : Fed) → FeedPromise s.tally piece old (Ok f) new
+      → FedPromise s piece old (record { tally = f.tally; read = s.read + f.taken; input = More }) new
+  piece_taken f p = go (too_many s.read piece) refl
     where
       go : (b : Bool) → too_many s.read piece ≡ b → FedPromise s piece old (record { tally = f.tally; read = s.read + f.taken; input = More }) new
-      go true e = let three : f.refusal ≡ 3 = rw e at refusal-as in absurd (omega arith)
+      go true e = let three : ◌≡◌ {A = ℕ} 0 3 = rw e at (refusal-as (Ok f) p) in absurd (omega arith)
       go false e =
-          let all : f.taken ≡ length piece = p.taken_is ∙ rw z in
+          let all : f.taken ≡ length piece = p.taken_is in
           record {
             input_is = rw e;
             carried = rw e (record {

@@ -136,15 +136,14 @@ fn fed(s: State, piece: &[u8], area: &mut [u8]) -> State
     ensures { FedPromise s piece.now area.old result area.new }
 {
     let t = s.tally;
-    let f = feeding::feed(t, piece, area);
-    let u = f.tally;
-    if f.refusal != 0 {
+    let Ok(f) = feeding::feed(t, piece, area) else {
         return State {
-            tally: u,
+            tally: t,
             read: s.read,
             input: Input::TooLong,
         };
-    }
+    };
+    let u = f.tally;
     State {
         tally: u,
         read: s.read + f.taken as u64,

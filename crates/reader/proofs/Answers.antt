@@ -1,11 +1,11 @@
 -- A call that is refused, and one that is not: from what was left to what `take` or `take_to_lock` promises. Assumes nothing.
-use mathlib.Core.Path.{◌≡◌, refl, sym, ap, subst, ◌∙◌}
-use mathlib.Core.Bool.{Bool, true, false, true≢false}
-use mathlib.Core.List.{List}
-use Prim.Native.Nat.{ℕ, zero, suc, ◌+◌, ◌^◌, ◌≤◌}
+use Rattle.std.proofs.Common.{◌≡◌, refl, sym, ap, subst, ◌∙◌, Bool, true, false, true≢false, List, ℕ, zero, suc, ◌+◌, ◌^◌, ◌≤◌, Result, Ok, Err}
 use native.Mathlib.Omega.{arith}
 use lib.ListN.{length}
 use Rattle.base.specs.Format.{major_frame}
+use Rattle.base.specs.declared.refusal.Refusal.{Refusal}
+use Rattle.base.specs.Refusals.{number}
+use Rattle.base.proofs.Lines.{positive}
 use Rattle.labelling.specs.declared.Tally.{Tally}
 use Rattle.labelling.specs.Votes.{rule_vote}
 use Rattle.labelling.specs.Machine.{state_of}
@@ -16,29 +16,29 @@ use Rattle.labelling.proofs.CallLaws.{no_refusal, refused-answer, accepted-answe
 use Rattle.own_sync.specs.Locks.{to_lock}
 use Rattle.own_sync.proofs.Locks.{up_shorter, up_all, part-accepted}
 use Rattle.reader.specs.declared.Taken.{Taken}
-use Rattle.reader.specs.Shapes.{call_of, answer_of, refused_with, TakePromise, part_of, PartPromise, locked_by, LockPromise}
-use Rattle.reader.proofs.Parts.{not_at_once, PartRead, part-read}
+use Rattle.reader.specs.Shapes.{call_of, answer_of, TakePromise, part_of, PartPromise, locked_by, LockPromise}
+use Rattle.reader.proofs.Parts.{PartRead, part-read}
 
 module _ {t : Tally} {p a : List ℕ} where
-  pub refused-promise : {n : ℕ} {r : Taken} → r ≡ refused_with t (suc n) → take_refusal (call_of t p a) ≡ suc n → TakePromise (call_of t p a) r a
-  refused-promise {n} e q = rw e record {
+  pub refused-promise : (e : Refusal) (n : ℕ) → number e ≡ suc n → take_refusal (call_of t p a) ≡ number e → TakePromise (call_of t p a) (Err e) a
+  refused-promise e n some q = record {
     refusal_is = sym q;
-    answer_is = sym (refused-answer (call_of t p a) n q);
+    answer_is = sym (refused-answer (call_of t p a) n (q ∙ some));
     within = omega arith;
-    takes_all = λ z. absurd (omega arith);
+    takes_all = λ z. absurd (positive e z);
     takes_some = λ z. absurd (true≢false (sym z));
     stays_ordered = λ o. o;
   }
 
-  pub accepted-promise : {r : Taken} {a' : List ℕ} → r.refusal ≡ 0 → take_refusal (call_of t p a) ≡ 0
-      → answer_of r a' ≡ answer_with t (feed (rule_vote t.rule) (state_of t) a p) → TakePromise (call_of t p a) r a'
-  accepted-promise {r} {a'} z q e =
+  pub accepted-promise : {r : Taken} {a' : List ℕ} → take_refusal (call_of t p a) ≡ 0
+      → answer_of r a' ≡ answer_with t (feed (rule_vote t.rule) (state_of t) a p) → TakePromise (call_of t p a) (Ok r) a'
+  accepted-promise {r} {a'} q e =
       let c = call_of t p a in
       let same : answer_of r a' ≡ answer c = e ∙ sym (accepted-answer c q) in
       let extent : Extent p (answer_of r a').taken (answer_of r a').complete =
       subst (λ (x : Answer). Extent p x.taken x.complete) (sym e) (feed-extent (rule_vote t.rule) (state_of t) a p) in
       record {
-        refusal_is = z ∙ sym q;
+        refusal_is = sym q;
         answer_is = same;
         within = extent.within;
         takes_all = λ y. extent.takes_all;
@@ -55,7 +55,7 @@ part-fits stop t p a o h l =
     let c = part_of stop (call_of t p a) in
     no_refusal t c.piece a o h (omega (arith, up_shorter (rule_vote t.rule) stop p (state_of t) a))
 
-module _ {stop : Bool} {c : TakeCall} {r : Taken} {a : List ℕ} where
+module _ {stop : Bool} {c : TakeCall} {r : Result Taken Refusal} {a : List ℕ} where
   pub refused-part : {n : ℕ} → take_refusal c ≡ suc n → TakePromise c r a → PartPromise stop c r a
   refused-part e p = record { refused = λ n q. p; accepted = λ q. absurd (omega arith) }
 
@@ -63,18 +63,30 @@ module _ {stop : Bool} {c : TakeCall} {r : Taken} {a : List ℕ} where
   accepted-part e p = record { refused = λ n q. absurd (omega arith); accepted = λ q. p }
 
 -- where no lock stops it, the part is the piece
-pub whole-promise : {c : TakeCall} {r : Taken} {a : List ℕ} → PartPromise false c r a → TakePromise c r a
+pub whole-promise : {c : TakeCall} {r : Result Taken Refusal} {a : List ℕ} → PartPromise false c r a → TakePromise c r a
 whole-promise {c} {r} {a} p = go (take_refusal c) refl
   where
     go : (n : ℕ) → take_refusal c ≡ n → TakePromise c r a
     go zero e = rw (up_all (rule_vote c.tally.rule) c.piece (state_of c.tally) c.area) at (p.accepted e)
     go (suc n) e = p.refused n e
 
-module _ {c : TakeCall} {r : Taken} {a : List ℕ} (p : PartPromise true c r a) where
-  -- what is left by a call that is refused, and by one that is not
-  unmoved : {n : ℕ} → take_refusal c ≡ suc n → r.tally ≡ c.tally
-  unmoved {n} e = ap (λ (x : Answer). x.tally) ((p.refused n e).answer_is ∙ refused-answer c n e)
+-- a call that is refused, and one that is not
+module _ {c : TakeCall} {a : List ℕ} where
+  pub lock_refused : (e : Refusal) → PartPromise true c (Err e) a → LockPromise c (Err e) a
+  lock_refused e p = go (take_refusal c) refl
+    where
+      go : (n : ℕ) → take_refusal c ≡ n → LockPromise c (Err e) a
+      go zero z = absurd (positive e ((p.accepted z).refusal_is ∙ part-accepted c z))
+      go (suc n) z = record {
+        refusal_is = (p.refused n z).refusal_is;
+        refused = p.refused;
+        accepted = p.accepted;
+        locked-is = omega arith;
+        takes_all = λ y. absurd (positive e y);
+        takes_some = λ y. absurd (true≢false (sym y));
+      }
 
+module _ {c : TakeCall} {r : Taken} {a : List ℕ} (p : PartPromise true c (Ok r) a) where
   abbrev part : List ℕ
   part = (to_lock c).piece
 
@@ -84,20 +96,11 @@ module _ {c : TakeCall} {r : Taken} {a : List ℕ} (p : PartPromise true c r a) 
   moved : take_refusal c ≡ 0 → answer_of r a ≡ answer_with c.tally read
   moved e = (p.accepted e).answer_is ∙ accepted-answer (to_lock c) (part-accepted c e)
 
-  pub lock_promise : (locked : Bool) → locked ≡ locked_by c.tally.framing r.tally.framing → LockPromise c (record { taken = r; locked = locked }) a
+  pub lock_promise : (locked : Bool) → locked ≡ locked_by c.tally.framing r.tally.framing → LockPromise c (Ok (record { taken = r; locked = locked })) a
   lock_promise locked k = go (take_refusal c) refl
     where
-      go : (n : ℕ) → take_refusal c ≡ n → LockPromise c (record { taken = r; locked = locked }) a
-      go (suc n) e =
-          let none : locked ≡ false = k ∙ rw (unmoved e) (not_at_once c.tally.framing) in
-          record {
-            refusal_is = (p.refused n e).refusal_is;
-            refused = p.refused;
-            accepted = p.accepted;
-            locked-is = rw (unmoved e, none) (omega arith);
-            takes_all = λ z. absurd (omega (arith, (p.refused n e).refusal_is));
-            takes_some = λ z. absurd (true≢false (sym z ∙ none));
-          }
+      go : (n : ℕ) → take_refusal c ≡ n → LockPromise c (Ok (record { taken = r; locked = locked })) a
+      go (suc n) e = absurd (omega (arith, e, (p.refused n e).refusal_is))
       go zero e =
           let q : PartRead c.tally.framing c.piece part read = part-read (rule_vote c.tally.rule) c.piece (state_of c.tally) c.area in
           let layer : r.tally.framing ≡ read.state.framing = ap (λ (x : Answer). x.tally.framing) (moved e) in
@@ -105,7 +108,7 @@ module _ {c : TakeCall} {r : Taken} {a : List ℕ} (p : PartPromise true c r a) 
           let taken : r.taken ≡ read.taken = ap (λ (x : Answer). x.taken) (moved e) in
           let told : locked ≡ locked_by c.tally.framing read.state.framing = k ∙ rw layer in
           record {
-            refusal_is = (p.accepted e).refusal_is ∙ part-accepted c e ∙ sym e;
+            refusal_is = sym e;
             refused = p.refused;
             accepted = p.accepted;
             locked-is = rw (layer, told) q.count;

@@ -8,7 +8,8 @@ mod shifts;
 ghost use Rattle.std.specs.Prelude.{◌≡◌, length};
 
 use base::format::MAJOR_FRAME;
-use base::refusal::WRONG_LENGTH;
+use base::refusal;
+use base::refusal::Refusal;
 use feeding::Stepped;
 use labelling::Tally;
 use reader::Taken;
@@ -91,7 +92,7 @@ fn one_cut(rt: &impl Print, stream: &[u8], length: &[u8], s: Shifts, rule: u64) 
         return Ok(());
     }
     let begun = reader::fresh(rule);
-    report::heading(rt, stream.len(), piece, rule, begun.refusal)?;
+    report::heading(rt, stream.len(), piece, rule, refusal::code(begun.answer))?;
     let mut space = [0u8; 16384];
     let area: &mut [u8] = &mut space;
     let r = read_stream(rt, from_tally(begun.tally, s), stream, piece, &mut *area)?;
@@ -122,13 +123,13 @@ fn read_stream(
     let mut at: usize = 0;
     while at < stream.len() {
         let t = r.tally;
-        let s = feeding::step(t, stream, at, piece, &mut *area);
-        r = stepped(rt, r, s, &mut *area)?;
-        let a = s.taken;
-        if a.refusal != 0 {
-            return Ok(r);
+        match feeding::step(t, stream, at, piece, &mut *area) {
+            Ok(s) => {
+                r = stepped(rt, r, s, &mut *area)?;
+                at = s.at;
+            }
+            Err(refusal) => return Ok(probe(answered(r, Err(refusal)), area)),
         }
-        at = s.at;
     }
     Ok(r)
 }
@@ -139,7 +140,7 @@ fn stepped(rt: &impl Print, r: Reading, s: Stepped, area: &mut [u8]) -> io::Resu
 {
     let a = s.taken;
     report::paid(rt, a.complete, a.tally.groups.bytes, area)?;
-    let next = answered(r, a);
+    let next = answered(r, Ok(a));
     if s.at < s.end {
         return Ok(next);
     }
@@ -175,55 +176,36 @@ fn short_area(r: Reading, area: &mut [u8]) -> Reading
 }
 
 // The reading after a call that must take its piece.
-fn answered(r: Reading, a: Taken) -> Reading {
-    let t = a.tally;
-    let s = r.shifts;
-    Reading {
-        tally: t,
-        calls: sum(r.calls, 1),
-        answers: mixed(r.answers, a),
-        refused: r.refused,
-        otherwise: r.otherwise,
-        shifts: s,
+fn answered(r: Reading, a: Result<Taken, Refusal>) -> Reading {
+    let mut next = r;
+    next.calls = sum(r.calls, 1);
+    match a {
+        Ok(a) => {
+            next.tally = a.tally;
+            next.answers = mixed(r.answers, a.taken, a.complete, 0);
+        }
+        Err(refusal) => next.answers = mixed(r.answers, 0, false, refusal.number()),
     }
+    next
 }
 
-fn mixed(h: u64, a: Taken) -> u64 {
-    let b = mix(h, a.taken as u64);
-    let c = mix(b, vectors::bit(a.complete));
-    mix(c, a.refusal as u64)
+// A refused call is mixed in as one that has taken no bytes and completed no frame.
+fn mixed(h: u64, taken: usize, complete: bool, refusal: u8) -> u64 {
+    let b = mix(h, taken as u64);
+    let c = mix(b, vectors::bit(complete));
+    mix(c, u64::from(refusal))
 }
 
 // The reading after a call that must be refused 2.
-fn refused(r: Reading, a: Taken) -> Reading {
-    let t = a.tally;
-    let s = r.shifts;
-    if is_refused(a) {
-        return Reading {
-            tally: t,
-            calls: r.calls,
-            answers: r.answers,
-            refused: sum(r.refused, 1),
-            otherwise: r.otherwise,
-            shifts: s,
-        };
+fn refused(r: Reading, a: Result<Taken, Refusal>) -> Reading {
+    let mut next = r;
+    match a {
+        Err(Refusal::WrongLength) => next.refused = sum(r.refused, 1),
+        Err(_) => next.otherwise = sum(r.otherwise, 1),
+        Ok(a) => {
+            next.tally = a.tally;
+            next.otherwise = sum(r.otherwise, 1);
+        }
     }
-    Reading {
-        tally: t,
-        calls: r.calls,
-        answers: r.answers,
-        refused: r.refused,
-        otherwise: sum(r.otherwise, 1),
-        shifts: s,
-    }
-}
-
-fn is_refused(a: Taken) -> bool {
-    if a.refusal != WRONG_LENGTH {
-        return false;
-    }
-    if a.taken != 0 {
-        return false;
-    }
-    !a.complete
+    next
 }

@@ -2,7 +2,8 @@
 ghost use Rattle.std.specs.Prelude.{◌≡◌, ◌<◌, length};
 
 use crate::Reading;
-use base::refusal::NO_SUCH_OPERATOR;
+use base::refusal::Refusal;
+use labelling::Tally;
 use vectors::{number, sum};
 
 const LAST_OPERATOR: u64 = 7;
@@ -48,16 +49,13 @@ pub(crate) fn changed(r: Reading) -> Reading {
     let t = r.tally;
     let operator = named(r.shifts);
     let a = reader::change_duty(t, operator);
-    let u = a.tally;
-    let s = counted(r.shifts, a.refusal);
-    Reading {
-        tally: u,
-        calls: r.calls,
-        answers: r.answers,
-        refused: r.refused,
-        otherwise: sum(r.otherwise, vectors::bit(a.refusal != due(operator))),
-        shifts: s,
+    let mut next = r;
+    next.shifts = counted(r.shifts, a);
+    next.otherwise = sum(r.otherwise, vectors::bit(!is_due(a, operator)));
+    if let Ok(u) = a {
+        next.tally = u;
     }
+    next
 }
 
 fn named(s: Shifts) -> u64 {
@@ -66,18 +64,22 @@ fn named(s: Shifts) -> u64 {
     operators[i]
 }
 
-// What the call must be refused with.
-fn due(operator: u64) -> u8 {
-    if operator > LAST_OPERATOR {
-        return NO_SUCH_OPERATOR;
+// Whether the call is refused where it must be, and with 14.
+fn is_due(a: Result<Tally, Refusal>, operator: u64) -> bool {
+    match a {
+        Ok(_) => operator <= LAST_OPERATOR,
+        Err(Refusal::NoSuchOperator) => operator > LAST_OPERATOR,
+        Err(_) => false,
     }
-    0
 }
 
-fn counted(s: Shifts, refusal: u8) -> Shifts {
+fn counted(s: Shifts, a: Result<Tally, Refusal>) -> Shifts {
     let mut next = s;
     next.next = sum(s.next, 1);
-    next.changed = sum(s.changed, vectors::bit(refusal == 0));
-    next.refused = sum(s.refused, vectors::bit(refusal == NO_SUCH_OPERATOR));
+    match a {
+        Ok(_) => next.changed = sum(s.changed, 1),
+        Err(Refusal::NoSuchOperator) => next.refused = sum(s.refused, 1),
+        Err(_) => {}
+    }
     next
 }

@@ -1,14 +1,13 @@
 -- Lists of calls that read a reel go on from one another; so whatever a step, a change of duty or a file brings, the reel stands as its calls left it.
 -- Assumes nothing.
-use mathlib.Core.Path.{◌≡◌, refl, sym, ap, ◌∙◌}
-use mathlib.Core.Bool.{Bool, true, false, cond}
-use mathlib.Core.List.{List, [], ◌∷◌, ◌++◌}
-use Prim.Native.Nat.{ℕ, zero, suc, ◌+◌, ◌-◌, ◌≤◌, ◌<◌}
+use Rattle.std.proofs.Common.{◌≡◌, refl, sym, ap, ◌∙◌, Bool, true, false, cond, List, [], ◌∷◌, ◌++◌, ℕ, zero, suc, ◌+◌, ◌-◌, ◌≤◌, ◌<◌, Result, Ok, Err}
 use native.Mathlib.Omega.{arith}
 use native.Mathlib.Numerals.{add-one}
 use lib.ListN.{length, take, drop, set, get_or, length-append, length-drop, length-set}
 use lib.Seq.{length-take-le, take-suc, take-suc-set, get_or-set_other, get_or-drop}
 use Rattle.base.specs.Lists.{one}
+use Rattle.base.specs.declared.refusal.Refusal.{Refusal}
+use Rattle.base.specs.Refusals.{number_of}
 use Rattle.labelling.specs.declared.Tally.{Tally}
 use Rattle.labelling.specs.Calls.{TakeCall, take_refusal, Answer, answer, taken, pays, DutyCall, duty_refusal, duty_answer, Call, takes, changes, joined, paid}
 use Rattle.labelling.specs.Calls.{done, changed}
@@ -23,7 +22,7 @@ use Rattle.duty.specs.Change.{duty_call_of}
 use Rattle.reader.specs.Shapes.{call_of, TakePromise}
 use Rattle.relocking.specs.declared.Feeder.{Feeder}
 use Rattle.relocking.specs.declared.Relocked.{Relocked}
-use Rattle.relocking.specs.Relock.{beginning, Move, reads, asks, leads, move, moved, led_by, RelockPromise}
+use Rattle.relocking.specs.Relock.{beginning, Move, reads, asks, leads, move, moved, led_by, refused_feeder, relocked_by, RelockPromise}
 use Rattle.feeding.proofs.CallLists.{paid-append, handed-one, joined-one, paid-one, joined-none, paid-none}
 use Rattle.relocking.proofs.CallLists.{relocked_append}
 use Rattle.reel_state.specs.declared.Advanced.{Advanced}
@@ -69,21 +68,25 @@ handed-more (reads k) f piece old = omega arith
 handed-more asks f piece old = omega arith
 handed-more leads f piece old = omega arith
 
-module _ (f : Feeder) (piece : List ℕ) (ends : Bool) (old : List ℕ) (r : Relocked) (new : List ℕ) (p : RelockPromise f piece ends old r new) where
-  relock_went : Went false f old (take r.taken piece) (one r.complete) r.feeder new
-  relock_went = go r.refusal refl
+module _ (f : Feeder) (piece : List ℕ) (ends : Bool) (old : List ℕ) (r : Result Relocked Refusal) (new : List ℕ)
+    (p : RelockPromise f piece ends old r new) where
+  abbrev after : Relocked
+  after = relocked_by f r
+
+  relock_went : Went false f old (take after.taken piece) (one after.complete) after.feeder new
+  relock_went = go (number_of r) refl
     where
-      go : (n : ℕ) → r.refusal ≡ n → Went false f old (take r.taken piece) (one r.complete) r.feeder new
+      go : (n : ℕ) → number_of r ≡ n → Went false f old (take after.taken piece) (one after.complete) after.feeder new
       go zero z = record {
         calls = p.calls;
         reads =
             by_own_sync (p.relocks z) (ap (λ (x : Relocked). x.feeder.handed) (p.answer_is z) ∙ handed-more (move f piece ends) f piece old);
-        paid-is = ap length (p.pays z) ∙ paid-count r.complete new;
+        paid-is = ap length (p.pays z) ∙ paid-count after.complete new;
       }
       go (suc n) z = let same = p.refused n z in rw (same.0, same.1) (went_nowhere false f old)
 
   pub steps-by_own_sync : StepPromise false f piece old r new
-  steps-by_own_sync = record { within = p.within; went = relock_went }
+  steps-by_own_sync = record { refusal_is = p.refusal_is; within = p.within; went = relock_went }
 
 taken_is : (c : TakeCall) → taken c ≡ take (answer c).taken c.piece
 unfolding taken
@@ -93,19 +96,13 @@ pays-is : (c : TakeCall) → pays c ≡ cond (answer c).complete ((answer c).are
 unfolding pays
 pays-is c = refl
 
-module _ (f : Feeder) (piece old : List ℕ) (r : Taken) (new : List ℕ) (p : TakePromise (call_of f.tally piece old) r new) where
+module _ (f : Feeder) (piece old : List ℕ) (r : Result Taken Refusal) (new : List ℕ) (p : TakePromise (call_of f.tally piece old) r new) where
   abbrev c : TakeCall
   c = call_of f.tally piece old
 
   -- what the call leaves, beside what goes with the tally
   abbrev left : Tally → Feeder
   left t = record { tally = t; awaits = f.awaits; handed = f.handed }
-
-  taken-so : r.taken ≡ (answer c).taken
-  taken-so = ap (λ (x : Answer). x.taken) p.answer_is
-
-  complete_so : r.complete ≡ (answer c).complete
-  complete_so = ap (λ (x : Answer). x.complete) p.answer_is
 
   take-went : Went true f old (take (answer c).taken piece) (one (answer c).complete) (left (answer c).tally) (answer c).area
   take-went = go (take_refusal c) refl
@@ -121,9 +118,17 @@ module _ (f : Feeder) (piece old : List ℕ) (r : Taken) (new : List ℕ) (p : T
       }
       go (suc n) z = rw (refused-answer c n z) (went_nowhere true f old)
 
-  pub steps-strictly : StepPromise true f piece old
-      (record { refusal = r.refusal; taken = r.taken; complete = r.complete; more = false; feeder = left r.tally }) new
-  steps-strictly = record { within = p.within; went = rw (sym p.answer_is) at take-went }
+-- a strict step that is refused, and one that is not
+pub refused_strictly : (f : Feeder) (piece old : List ℕ) (e : Refusal) (new : List ℕ) → TakePromise (call_of f.tally piece old) (Err e) new
+    → StepPromise true f piece old (Err e) new
+refused_strictly f piece old e new p =
+    record { refusal_is = p.refusal_is; within = p.within; went = rw (sym p.answer_is) at (take-went f piece old (Err e) new p) }
+
+pub steps-strictly : (f : Feeder) (piece old : List ℕ) (r : Taken) (new : List ℕ) → TakePromise (call_of f.tally piece old) (Ok r) new
+    → StepPromise true f piece old
+    (Ok (record { taken = r.taken; complete = r.complete; more = false; feeder = record { tally = r.tally; awaits = f.awaits; handed = f.handed } })) new
+steps-strictly f piece old r new p =
+    record { refusal_is = p.refusal_is; within = p.within; went = rw (sym p.answer_is) at (take-went f piece old (Ok r) new p) }
 
 -- ---- a change of duty
 
@@ -187,14 +192,24 @@ pub stands_begun : (r : Reel) → r.feeder ≡ beginning 1 → r.taken ≡ 0 →
 stands_begun r e t n = record { bytes = []; went = rw (e, n) (went_nowhere r.strict (beginning 1) blank); taken_is = t }
 
 -- a step on a piece
-pub advances : (reel : Reel) (piece old : List ℕ) (s : Relocked) (new : List ℕ) (r : Advanced) → StepPromise reel.strict reel.feeder piece old s new
-    → SteppedPromise reel s r → AdvancePromise reel old r new
+pub advances : (reel : Reel) (piece old : List ℕ) (s : Result Relocked Refusal) (new : List ℕ) (r : Advanced)
+    → StepPromise reel.strict reel.feeder piece old s new → SteppedPromise reel (relocked_by reel.feeder s) r → AdvancePromise reel old r new
 advances reel piece old s new r p q = record {
-  bytes = take s.taken piece;
+  bytes = take (relocked_by reel.feeder s).taken piece;
   strict_is = q.strict_is;
-  taken_is = omega (arith, q.taken_is, length-take-le s.taken piece p.within);
+  taken_is = omega (arith, q.taken_is, length-take-le (relocked_by reel.feeder s).taken piece p.within);
   frames_is = rw q.complete_is q.frames_is;
   went = rw (q.complete_is, q.feeder_is) p.went;
+}
+
+-- a step that is refused leaves the reel as it was
+pub stepped_nowhere : (reel : Reel) (r : Advanced) → Keeps reel r → SteppedPromise reel (refused_feeder reel.feeder) r
+stepped_nowhere reel r k = record {
+  strict_is = k.strict_is;
+  taken_is = omega (arith, k.taken_is);
+  frames_is = omega (arith, k.frames_is);
+  feeder_is = k.feeder_is;
+  complete_is = k.none-complete;
 }
 
 -- the input goes on, and nothing is taken

@@ -7,11 +7,12 @@ mod files;
 ghost use Rattle.std.specs.Prelude.{◌≡◌, true, List, ℕ, ◌+◌, ◌^◌, ◌≤◌, ◌<◌, length};
 ghost use Rattle.reel_state.specs.Reading.{StepPromise, Stands, AdvancePromise, blank};
 
+use base::refusal::Refusal;
 use command::ErrorOutput;
 pub use files::Source;
 use order::LIMIT;
 pub use reel_state::{Advanced, Event, Reel};
-use reel_state::{stepped, too_many};
+use reel_state::{refused, stepped};
 use relocking::{Feeder, Relocked, relock};
 use std::io::Input;
 use std::rt::{Env, Files};
@@ -48,8 +49,9 @@ pub fn change_duty(reel: Reel, operator: u64) -> Reel
     ensures { ((a : List ℕ) → Stands reel a → Stands result a) × (result.frames ≡ reel.frames) }
 {
     let f = reel.feeder;
-    let changed = reader::change_duty(f.tally, operator);
-    let tally = changed.tally;
+    let Ok(tally) = reader::change_duty(f.tally, operator) else {
+        return reel;
+    };
     let feeder = Feeder {
         tally: tally,
         awaits: f.awaits,
@@ -99,18 +101,20 @@ fn on_piece(reel: Reel, piece: &[u8], whole: bool, area: &mut [u8]) -> Advanced
     ensures { AdvancePromise reel area.old result area.new }
 {
     if LIMIT < reel.taken {
-        return too_many(reel);
+        return refused(reel, Refusal::TooManyBytes);
     }
     if LIMIT < reel.frames {
-        return too_many(reel);
+        return refused(reel, Refusal::TooManyBytes);
     }
     let f = reel.feeder;
-    let s = step(reel.strict, f, piece, reel.last & whole, area);
-    stepped(reel, s, whole)
+    match step(reel.strict, f, piece, reel.last & whole, area) {
+        Ok(s) => stepped(reel, s, whole),
+        Err(refusal) => refused(reel, refusal),
+    }
 }
 
 // One step of the feeder that locks on a frame's own sync; or one call, as far as a complete major frame.
-fn step(strict: bool, f: Feeder, piece: &[u8], ends: bool, area: &mut [u8]) -> Relocked
+fn step(strict: bool, f: Feeder, piece: &[u8], ends: bool, area: &mut [u8]) -> Result<Relocked, Refusal>
     ensures { StepPromise strict f piece.now area.old result area.new }
 {
     if strict {
@@ -119,24 +123,23 @@ fn step(strict: bool, f: Feeder, piece: &[u8], ends: bool, area: &mut [u8]) -> R
     relock(f, piece, ends, area)
 }
 
-fn strict_step(f: Feeder, piece: &[u8], area: &mut [u8]) -> Relocked
+fn strict_step(f: Feeder, piece: &[u8], area: &mut [u8]) -> Result<Relocked, Refusal>
     ensures { StepPromise true f piece.now area.old result area.new }
 {
     let t = f.tally;
-    let answer = reader::take(t, piece, area);
+    let answer = reader::take(t, piece, area)?;
     let left = answer.tally;
     let next = Feeder {
         tally: left,
         awaits: f.awaits,
         handed: f.handed,
     };
-    Relocked {
-        refusal: answer.refusal,
+    Ok(Relocked {
         taken: answer.taken,
         complete: answer.complete,
         more: false,
         feeder: next,
-    }
+    })
 }
 
 fn least(a: usize, b: usize) -> usize

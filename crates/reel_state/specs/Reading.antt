@@ -1,13 +1,16 @@
 -- What is read of a reel that comes from files, as it is locked on its frames' own sync or by 01's rules alone. No contract can name the bytes that a
 -- read brings; but whatever they are, the feeder that goes from step to step is what a list of calls leaves, handed on from a fresh tally of rule 1.
 -- Definitions only.
-use Rattle.std.specs.Prelude.{◌≡◌, Bool, true, false, List, ℕ, ◌+◌, ◌≤◌, ◌<◌, ◌^◌, length, take, replicate}
+use Rattle.std.specs.Prelude.{◌≡◌, Bool, true, false, List, ℕ, ◌+◌, ◌≤◌, ◌<◌, ◌^◌, cond, length, take, replicate, Result}
+use Rattle.base.specs.declared.refusal.Refusal.{Refusal}
+use Rattle.base.specs.Refusals.{number_of}
 use Rattle.base.specs.Lists.{one}
-use Rattle.labelling.specs.Calls.{Call, joined, paid, Handed}
+use Rattle.labelling.specs.Calls.{take_refusal, Call, joined, paid, Handed}
 use Rattle.own_sync.specs.Relocking.{Relocked as RelockedCalls}
 use Rattle.relocking.specs.declared.Feeder.{Feeder}
 use Rattle.relocking.specs.declared.Relocked.{Relocked}
-use Rattle.relocking.specs.Relock.{beginning}
+use Rattle.reader.specs.Shapes.{call_of}
+use Rattle.relocking.specs.Relock.{beginning, relock_refusal, relocked_by}
 use Rattle.reel_state.specs.declared.Event.{Event}
 use Rattle.reel_state.specs.declared.Event.TheVariants.{Onward, Filled, Complete, Cut, Ended, Unreadable, Refused}
 use Rattle.reel_state.specs.declared.Advanced.{Advanced}
@@ -36,9 +39,11 @@ pub record Went (strict : Bool) (f : Feeder) (a bytes : List ℕ) (frames : ℕ)
 -- ---- a step
 
 -- `step` of a feeder on a piece answers r; the area is old before it and new afterwards
-pub record StepPromise (strict : Bool) (f : Feeder) (piece old : List ℕ) (r : Relocked) (new : List ℕ) : Type 0 where
-  pub within : r.taken ≤ length piece
-  pub went : Went strict f old (take r.taken piece) (one r.complete) r.feeder new
+pub record StepPromise (strict : Bool) (f : Feeder) (piece old : List ℕ) (r : Result Relocked Refusal) (new : List ℕ) : Type 0 where
+  -- it is refused as its call is, or as the step of the feeder that locks on a frame's own sync
+  pub refusal_is : number_of r ≡ cond strict (take_refusal (call_of f.tally piece old)) (relock_refusal f (length piece) (length old))
+  pub within : (relocked_by f r).taken ≤ length piece
+  pub went : Went strict f old (take (relocked_by f r).taken piece) (one (relocked_by f r).complete) (relocked_by f r).feeder new
 
 -- ---- a reel
 
@@ -55,7 +60,7 @@ is_complete Complete = true
 is_complete Cut = false
 is_complete Ended = false
 is_complete Unreadable = false
-is_complete (Refused n) = false
+is_complete (Refused r) = false
 
 -- `advance` goes on from a reel: some bytes are taken, and a major frame is paid exactly where it says so, by the one who is on duty
 pub record AdvancePromise (reel : Reel) (old : List ℕ) (r : Advanced) (new : List ℕ) : Type 0 where

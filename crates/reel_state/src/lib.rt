@@ -5,7 +5,7 @@ ghost use Rattle.std.specs.Prelude.{◌≡◌, true, false, ◌≤◌};
 ghost use Rattle.base.specs.Lists.{one};
 ghost use Rattle.reel_state.specs.Reading.{Room, SteppedPromise, is_complete, Keeps};
 
-use base::refusal::TOO_MANY_BYTES;
+use base::refusal::Refusal;
 use relocking::{Feeder, Relocked};
 
 // What has happened.
@@ -23,8 +23,8 @@ pub enum Event {
     Ended,
     // A file could not be opened or read; a line has said so.
     Unreadable,
-    // The reader has refused the bytes by this number.
-    Refused(u8),
+    // The reader has refused the bytes.
+    Refused(Refusal),
 }
 
 // How the reading of a reel stands.
@@ -66,7 +66,7 @@ pub fn stepped(reel: Reel, s: Relocked, whole: bool) -> Advanced
     ensures { Room reel.taken reel.frames reel.at s.taken → SteppedPromise reel s result }
 {
     if !has_room(reel.taken, reel.frames, reel.at, s.taken) {
-        return too_many(reel);
+        return refused(reel, Refusal::TooManyBytes);
     }
     moved(reel, s, whole)
 }
@@ -101,7 +101,7 @@ fn moved(reel: Reel, s: Relocked, whole: bool) -> Advanced
     r.at = reel.at + s.taken;
     r.wants = s.more & whole;
     Advanced {
-        event: event_of(s.refusal, s.complete, s.more & !whole),
+        event: event_of(s.complete, s.more & !whole),
         reel: r,
     }
 }
@@ -115,23 +115,21 @@ fn number(complete: bool) -> u64
     0
 }
 
-pub fn too_many(reel: Reel) -> Advanced
+// The bytes are refused, and the reel is as it was.
+pub fn refused(reel: Reel, refusal: Refusal) -> Advanced
     ensures { Keeps reel result }
 {
     Advanced {
-        event: Event::Refused(TOO_MANY_BYTES),
+        event: Event::Refused(refusal),
         reel: reel,
     }
 }
 
-fn event_of(refusal: u8, complete: bool, cut: bool) -> Event
+fn event_of(complete: bool, cut: bool) -> Event
     ensures { is_complete result ≡ complete }
 {
     if complete {
         return Event::Complete;
-    }
-    if refusal != 0 {
-        return Event::Refused(refusal);
     }
     if cut {
         return Event::Cut;

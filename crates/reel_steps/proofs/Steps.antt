@@ -22,9 +22,12 @@ use Rattle.own_sync.proofs.Relocking.{own-once}
 use Rattle.own_reels.specs.AnyCut.{SameLeft}
 use Rattle.own_reels.proofs.AnyCut.{any_cut}
 use Rattle.reader.specs.Shapes.{call_of}
+use Rattle.std.specs.Prelude.{Result}
+use Rattle.base.specs.declared.refusal.Refusal.{Refusal}
+use Rattle.base.specs.Refusals.{number_of}
 use Rattle.relocking.specs.declared.Feeder.{Feeder}
 use Rattle.relocking.specs.declared.Relocked.{Relocked}
-use Rattle.relocking.specs.Relock.{Move, reads, asks, leads, move, moved, led_by, call_on, call_led, refused_feeder, RelockPromise, beginning}
+use Rattle.relocking.specs.Relock.{Move, reads, asks, leads, move, moved, led_by, call_on, call_led, refused_feeder, relocked_by, RelockPromise, beginning}
 use Rattle.feeding.proofs.CallLists.{paid-append, paid-none}
 use Rattle.relocking.proofs.CallLists.{relocked_append}
 use Rattle.reel_steps.specs.Steps.{Steps, no_step, step, AnySteps}
@@ -102,9 +105,10 @@ record Made (f : Feeder) (a bs : List ℕ) (ps : List (List ℕ)) (f' : Feeder) 
   handed : f'.handed ≡ f.handed + count
   one_booked : OneBooked f.tally.operators → OneBooked f'.tally.operators
 
-module _ {f' : Feeder} {a' bs : List ℕ} {ps : List (List ℕ)} (f : Feeder) (piece : List ℕ) (ends : Bool) (old : List ℕ) (r : Relocked) (new : List ℕ) where
-  accepted-made : RelockPromise f piece ends old r new → r.refusal ≡ 0 → Made r.feeder new bs ps f' a'
-      → Made f old (take r.taken piece ++ bs) (cond r.complete (new ∷ []) [] ++ ps) f' a'
+module _ {f' : Feeder} {a' bs : List ℕ} {ps : List (List ℕ)} (f : Feeder) (piece : List ℕ) (ends : Bool) (old : List ℕ) (r : Result Relocked Refusal)
+    (new : List ℕ) where
+  accepted-made : RelockPromise f piece ends old r new → number_of r ≡ 0 → Made (relocked_by f r).feeder new bs ps f' a'
+      → Made f old (take (relocked_by f r).taken piece ++ bs) (cond (relocked_by f r).complete (new ∷ []) [] ++ ps) f' a'
   accepted-made p e q =
       let m = move f piece ends in
       let is = p.answer_is e in
@@ -117,18 +121,18 @@ module _ {f' : Feeder} {a' bs : List ℕ} {ps : List (List ℕ)} (f : Feeder) (p
         one_booked = λ h. q.one_booked (rw is (moved-one f piece old m h));
       }
 
-  refused-made : (n : ℕ) → r ≡ refused_feeder f n → new ≡ old → Made r.feeder new bs ps f' a'
-      → Made f old (take r.taken piece ++ bs) (cond r.complete (new ∷ []) [] ++ ps) f' a'
-  refused-made n e z q = rw e (rw (e, z) at q)
+  refused-made : relocked_by f r ≡ refused_feeder f → new ≡ old → Made (relocked_by f r).feeder new bs ps f' a'
+      → Made f old (take (relocked_by f r).taken piece ++ bs) (cond (relocked_by f r).complete (new ∷ []) [] ++ ps) f' a'
+  refused-made e z q = rw e (rw (e, z) at q)
 
 made : {f f' : Feeder} {a a' bs : List ℕ} {ps : List (List ℕ)} → Steps f a bs ps f' a' → Made f a bs ps f' a'
 made no_step = record { calls = []; count = 0; relocks = done; pays = paid-none; handed = omega arith; one_booked = λ h. h }
-made {f' = f'} {a' = a'} (step {bs = bs} {ps = ps} f piece ends old r new p s) = go r.refusal refl (made s)
+made {f' = f'} {a' = a'} (step {bs = bs} {ps = ps} f piece ends old r new p s) = go (number_of r) refl (made s)
   where
-    go : (n : ℕ) → r.refusal ≡ n → Made r.feeder new bs ps f' a'
-        → Made f old (take r.taken piece ++ bs) (cond r.complete (new ∷ []) [] ++ ps) f' a'
+    go : (n : ℕ) → number_of r ≡ n → Made (relocked_by f r).feeder new bs ps f' a'
+        → Made f old (take (relocked_by f r).taken piece ++ bs) (cond (relocked_by f r).complete (new ∷ []) [] ++ ps) f' a'
     go zero e q = accepted-made f piece ends old r new p e q
-    go (suc n) e q = refused-made f piece ends old r new (suc n) (p.refused n e).0 (p.refused n e).1 q
+    go (suc n) e q = refused-made f piece ends old r new (p.refused n e).0 (p.refused n e).1 q
 
 -- ---- the claim
 

@@ -3,6 +3,7 @@ use mathlib.Core.Path.{◌≡◌, refl, sym, ap, ◌∙◌}
 use mathlib.Core.Bool.{Bool, true, ◌||◌}
 use mathlib.Core.List.{List, [], ◌∷◌}
 use Prim.Native.Nat.{ℕ}
+use Rattle.std.specs.Prelude.{Ok}
 use borrow.Author.Tests.{ne_eqb}
 use Rattle.base.specs.Lists.{one}
 use Rattle.labelling.specs.Calls.{TakeCall, take_refusal, answer}
@@ -80,7 +81,7 @@ module _ (n frame old part : List ℕ) (awaits : Bool) (handed : ℕ) where
         (ap (λ (x : Bool). waits || x) (locked-so c e (locked_of c r) new p))
 
     pub moves_so : (waits : Bool) (piece : List ℕ) (ends : Bool)
-        → RelockPromise before piece ends old (relocked_of (step_of r waits handed) (answer (to_lock c)).tally) new
+        → RelockPromise before piece ends old (Ok (relocked_of (step_of r waits handed) (answer (to_lock c)).tally)) new
         → Moves before piece ends old (step_of r waits handed) numbers left new
     moves_so waits piece ends p =
         let kept = q.in_place.accepted no_refusal_so in

@@ -5,6 +5,7 @@ use mathlib.Core.Bool.{Bool, true, false, not, ◌&&◌, ◌||◌, true≢false}
 use mathlib.Core.List.{List}
 use Prim.Native.Nat.{ℕ, zero, suc, ◌+◌, ◌/◌, ◌^◌, ◌≤◌, ◌<◌}
 use native.Mathlib.Omega.{arith}
+use Rattle.std.specs.Prelude.{Ok}
 use lib.Dec.{eqb, ltb}
 use lib.ListN.{length, get_or}
 use borrow.Author.Tests.{eqb-true, eq-eqb, lt-ltb, ltb-true, not-true}
@@ -129,7 +130,7 @@ module _ (n frame feeder piece : List ℕ) (ends : Bool) (old : List ℕ) where
     -- a call as far as a lock
     pub step_reads : (waits : Bool) (r : Locked) (numbers left new : List ℕ) → LockedInPlace c n r numbers left new
         → (relock_refusal f (length piece) (length old) ≡ 0 → (x : Relocked) (y : List ℕ) → ReadsOn f part waits old x y
-        → RelockPromise f piece ends old x y)
+        → RelockPromise f piece ends old (Ok x) y)
         → StepCrossed n frame feeder piece ends old (step_of r waits (get_or feeder 1 0)) numbers left new
     step_reads waits r numbers left new q promise =
         step_called (to_lock c) (step_of r waits (get_or feeder 1 0)) r.part numbers left new refl q.in_place
@@ -139,7 +140,7 @@ module _ (n frame feeder piece : List ℕ) (ends : Bool) (old : List ℕ) where
   -- the lead-in, and a call on the piece
   pub step_leads : Ready n frame feeder (length piece) → (r : Locked) (numbers left new : List ℕ)
       → LedInPlace (call_in n frame piece old) n r numbers left new
-      → (relock_refusal f (length piece) (length old) ≡ 0 → (x : Relocked) (y : List ℕ) → LeadsIn f piece old x y → RelockPromise f piece ends old x y)
+      → (relock_refusal f (length piece) (length old) ≡ 0 → (x : Relocked) (y : List ℕ) → LeadsIn f piece old x y → RelockPromise f piece ends old (Ok x) y)
       → StepCrossed n frame feeder piece ends old (step_of r false (get_or feeder 1 0 + 1)) numbers left new
   step_leads ready r numbers left new q promise =
       step_called ready piece (omega arith) (to_lock d) s r.part numbers left new refl q.in_place moves
@@ -203,19 +204,18 @@ module _ (n frame feeder piece : List ℕ) (ends : Bool) (old : List ℕ) where
 
     -- the bytes are asked for again
     pub asked-so : (s : Step) (numbers left : List ℕ) → get_or feeder 0 0 ≡ 1 → Asks n frame (get_or feeder 1 0) s numbers left
-        → RelockPromise f piece ends old (record { refusal = 0; taken = 0; complete = false; more = true; feeder = f }) old
+        → RelockPromise f piece ends old (Ok (record { taken = 0; complete = false; more = true; feeder = f })) old
         → StepCrossed n frame feeder piece ends old s numbers left old
     asked-so s numbers left w k p =
         let none : s.refusal ≡ 0 = ap (λ (x : Step). x.refusal) k.step_is in
         let awaits : eqb (get_or feeder 0 0) 1 ≡ true = eq-eqb (get_or feeder 0 0) 1 w in
         let told : Bool → Relocked = λ x. record {
-          refusal = 0;
           taken = 0;
           complete = false;
           more = true;
           feeder = record { tally = tally_of n frame; awaits = x; handed = get_or feeder 1 0 };
         } in
-        let promised = subst (λ (x : Bool). RelockPromise f piece ends old (told x) old) awaits p in
+        let promised = subst (λ (x : Bool). RelockPromise f piece ends old (Ok (told x)) old) awaits p in
         record {
           refusal_is = none ∙ sym e;
           refused = λ h. absurd (h none);

@@ -1,5 +1,5 @@
 -- A step that locks on a frame's own sync, as it crosses: the feeder is the numbers of its tally, and two beside them. Definitions only.
-use Rattle.std.specs.Prelude.{◌≡◌, Bool, true, false, cond, not, ◌&&◌, ◌||◌, List, [], ◌∷◌, ℕ, ◌+◌, ◌/◌, ◌^◌, ◌≤◌, eqb, ltb, length, get_or}
+use Rattle.std.specs.Prelude.{◌≡◌, Bool, true, false, cond, not, ◌&&◌, ◌||◌, List, [], ◌∷◌, ℕ, ◌+◌, ◌/◌, ◌^◌, ◌≤◌, eqb, ltb, length, get_or, Ok}
 use Rattle.base.specs.Lists.{one}
 use Rattle.base.specs.Refusals.{◌when◌, answered, number}
 use Rattle.base.specs.declared.refusal.Refusal.TheVariants.{NotInOrder}
@@ -84,7 +84,6 @@ step_of r waits handed =
 -- an accepted step with the tally that it leaves, as `relocking` answers it
 abbrev pub relocked_of : Step → Tally → Relocked
 relocked_of s t = record {
-  refusal = 0;
   taken = s.taken;
   complete = s.complete;
   more = s.more;
@@ -101,7 +100,7 @@ pub record Moves (f : Feeder) (piece : List ℕ) (ends : Bool) (old : List ℕ) 
   pub tally : Tally
   pub holds : Holds tally numbers frame
   pub no_refusal : s.refusal ≡ 0
-  pub promised : RelockPromise f piece ends old (relocked_of s tally) new
+  pub promised : RelockPromise f piece ends old (Ok (relocked_of s tally)) new
 
 -- the bytes are asked for again
 pub record Asks (n frame : List ℕ) (handed : ℕ) (s : Step) (numbers left : List ℕ) : Type 0 where

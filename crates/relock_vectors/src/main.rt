@@ -6,6 +6,7 @@ mod report;
 
 ghost use Rattle.std.specs.Prelude.{◌≡◌, length};
 
+use base::refusal::Refusal;
 use relocking::Feeder;
 use std::io;
 use std::io::Input;
@@ -22,7 +23,7 @@ pub(crate) struct Reading {
     pub(crate) feeder: Feeder,
     pub(crate) at: u64,
     pub(crate) end: u64,
-    pub(crate) refusal: u8,
+    pub(crate) answer: Result<(), Refusal>,
 }
 
 fn main(rt: HostRuntime) -> io::Result<()> {
@@ -101,7 +102,7 @@ fn begun(rule: u64) -> Reading {
         feeder: f,
         at: 0,
         end: 0,
-        refusal: 0,
+        answer: Ok(()),
     }
 }
 
@@ -125,10 +126,7 @@ fn read_reel(
 }
 
 fn is_done(r: Reading, size: usize) -> bool {
-    if r.refusal != 0 {
-        return true;
-    }
-    size as u64 <= r.at
+    r.answer.is_err() | (size as u64 <= r.at)
 }
 
 // One step on the bytes in hand. A major frame that it completed is reported.
@@ -141,7 +139,10 @@ fn step(
 ) -> io::Result<Reading> {
     let f = r.feeder;
     let size = reel.len() as u64;
-    let a = relocking::relock(f, in_hand(reel, r.at, r.end), size <= r.end, &mut *area);
+    let a = match relocking::relock(f, in_hand(reel, r.at, r.end), size <= r.end, &mut *area) {
+        Ok(a) => a,
+        Err(refusal) => return Ok(stopped(r, refusal)),
+    };
     let at = sum(r.at, a.taken as u64);
     report::paid(rt, a.complete, at, area)?;
     let next = a.feeder;
@@ -149,8 +150,15 @@ fn step(
         feeder: next,
         at: at,
         end: further(r.end, a.more | (r.end <= at), piece, size),
-        refusal: a.refusal,
+        answer: Ok(()),
     })
+}
+
+// The reading after a step that is refused.
+fn stopped(r: Reading, refusal: Refusal) -> Reading {
+    let mut next = r;
+    next.answer = Err(refusal);
+    next
 }
 
 fn in_hand(reel: &[u8], at: u64, end: u64) -> &[u8] {

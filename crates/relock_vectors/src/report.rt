@@ -1,5 +1,6 @@
 // What is written of a reel.
 use crate::Reading;
+use base::refusal::Refusal;
 use base::wide;
 use labelling::{Framing, Groups, Runs, Tally};
 use std::io;
@@ -20,7 +21,7 @@ pub(crate) fn paid(rt: &impl Print, complete: bool, at: u64, area: &[u8]) -> io:
 }
 
 pub(crate) fn whole(rt: &impl Print, r: Reading, area: &[u8]) -> io::Result<()> {
-    refused(rt, r.refusal)?;
+    refused(rt, r.answer)?;
     let t = r.feeder.tally;
     groups(rt, t.groups)?;
     framing(rt, t.framing)?;
@@ -30,9 +31,9 @@ pub(crate) fn whole(rt: &impl Print, r: Reading, area: &[u8]) -> io::Result<()> 
 }
 
 // No step here may be refused.
-fn refused(rt: &impl Print, number: u8) -> io::Result<()> {
-    if number != 0 {
-        vectors::put_refusal(rt, number)?;
+fn refused(rt: &impl Print, answer: Result<(), Refusal>) -> io::Result<()> {
+    if let Err(refusal) = answer {
+        vectors::put_refusal(rt, refusal.number())?;
     }
     Ok(())
 }

@@ -8,6 +8,7 @@ use lib.Dec.{eqb}
 use lib.ListN.{length, get_or, take, drop}
 use lib.Seq.{take_all, drop-cons}
 use borrow.Author.Tests.{lt-ltb, le-ltb, eqb-true}
+use Rattle.std.specs.Prelude.{Ok}
 use Rattle.base.specs.Format.{SYNC}
 use Rattle.labelling.specs.Words.{Vote, outside, words}
 use Rattle.labelling.specs.Votes.{rule_vote}
@@ -107,7 +108,7 @@ module _ (f : Feeder) (piece : List ℕ) (ends : Bool) (old : List ℕ) (a : rel
   before = ordered (state_of f.tally) (tally_ordered f.tally order.in_tally).in_state
 
   -- no lock awaits its word
-  pub reads_all : f.awaits ≡ false → (r : Relocked) (new : List ℕ) → ReadsOn f piece false old r new → RelockPromise f piece ends old r new
+  pub reads_all : f.awaits ≡ false → (r : Relocked) (new : List ℕ) → ReadsOn f piece false old r new → RelockPromise f piece ends old (Ok r) new
   unfolding move
   reads_all z r new p =
       step_reads f piece ends old a (length piece) (rw z) (omega arith) (λ h. h) false (rw z) (λ w. absurd (true≢false (sym w ∙ z)))
@@ -141,14 +142,14 @@ module _ (f : Feeder) (piece : List ℕ) (ends : Bool) (old : List ℕ) (a : rel
     goes_on : (k : ℕ) → move f piece ends ≡ reads k → k ≤ length piece → (0 < length piece → 0 < k) → words vote (take k piece) ≡ []
         → (take_refusal (call_on f piece k old) ≡ 0 → (ends ≡ true → (answer (to_lock (call_on f piece k old))).taken < length piece)
         → (answer (to_lock (call_on f piece k old))).tally.groups.«open» ≡ 0)
-        → (r : Relocked) (new : List ℕ) → ReadsOn f (take k piece) true old r new → RelockPromise f piece ends old r new
+        → (r : Relocked) (new : List ℕ) → ReadsOn f (take k piece) true old r new → RelockPromise f piece ends old (Ok r) new
     goes_on k m h some none outside r new p =
         step_reads f piece ends old a k m h some true (rw (z, next-is (take k piece), none)) (λ w. rw (next-is (take k piece), none))
         (λ e w not-all. still_waits k none e (outside e not-all)) r new p
 
     -- bytes that stand before the next SYNC
     pub reads_before : 0 < before_group piece → before_group piece ≤ length piece → (r : Relocked) (new : List ℕ)
-        → ReadsOn f (take (before_group piece) piece) true old r new → RelockPromise f piece ends old r new
+        → ReadsOn f (take (before_group piece) piece) true old r new → RelockPromise f piece ends old (Ok r) new
     unfolding move
     reads_before some within =
         let k = before_group piece in
@@ -165,7 +166,7 @@ module _ (f : Feeder) (piece : List ℕ) (ends : Bool) (old : List ℕ) (a : rel
     module _ (head : before_group piece ≡ 0) where
       -- a group that is not whole, at the end of the stream; or no byte
       pub reads_part : length piece < 4 → (ends || eqb (length piece) 0) ≡ true → (r : Relocked) (new : List ℕ)
-          → ReadsOn f piece true old r new → RelockPromise f piece ends old r new
+          → ReadsOn f piece true old r new → RelockPromise f piece ends old (Ok r) new
       unfolding move
       reads_part few now r new p =
           goes_on (length piece) (rw (z, head, lt-ltb (length piece) 4 few, now)) (omega arith) (λ h. h) none outside r new (rw all_of p)
@@ -194,7 +195,7 @@ module _ (f : Feeder) (piece : List ℕ) (ends : Bool) (old : List ℕ) (a : rel
 
       -- a group that is not whole, and the stream goes on
       pub asks_again : length piece < 4 → (ends || eqb (length piece) 0) ≡ false
-          → RelockPromise f piece ends old (record { refusal = 0; taken = 0; complete = false; more = true; feeder = f }) old
+          → RelockPromise f piece ends old (Ok (record { taken = 0; complete = false; more = true; feeder = f })) old
       unfolding move
       asks_again few now = step_asks f piece ends old a (rw (z, head, lt-ltb (length piece) 4 few, now))
 
@@ -204,7 +205,7 @@ module _ (f : Feeder) (piece : List ℕ) (ends : Bool) (old : List ℕ) (a : rel
 
         -- FA
         pub reads_frame : gives_first vote piece ≡ true → (r : Relocked) (new : List ℕ) → ReadsOn f piece false old r new
-            → RelockPromise f piece ends old r new
+            → RelockPromise f piece ends old (Ok r) new
         unfolding move
         reads_frame fa r new p =
             step_reads f piece ends old a (length piece) (rw (z, head, le-ltb (length piece) 4 many, fa)) (omega arith) (λ h. h) false
@@ -212,7 +213,7 @@ module _ (f : Feeder) (piece : List ℕ) (ends : Bool) (old : List ℕ) (a : rel
             (rw all_of p)
 
         -- any other word
-        pub leads_other : gives_first vote piece ≡ false → (r : Relocked) (new : List ℕ) → LeadsIn f piece old r new → RelockPromise f piece ends old r new
+        pub leads_other : gives_first vote piece ≡ false → (r : Relocked) (new : List ℕ) → LeadsIn f piece old r new → RelockPromise f piece ends old (Ok r) new
         unfolding move
         leads_other another r new p =
             step_leads f piece ends old a (rw (z, head, le-ltb (length piece) 4 many, another)) z

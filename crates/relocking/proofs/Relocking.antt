@@ -1,15 +1,18 @@
 -- What a step promises follows from what its calls promise. The move is read off the piece; a call as far as a lock takes its bytes from the piece; and
 -- a lock that goes on waiting has met no word. Assumes nothing.
-use mathlib.Core.Path.{◌≡◌, refl, sym, ap, ◌∙◌}
-use mathlib.Core.Bool.{Bool, true, false, cond, ◌&&◌, ◌||◌, not, true≢false, or_comm}
-use mathlib.Core.List.{List, [], ◌∷◌, append-nil}
-use Prim.Native.Nat.{ℕ, suc, ◌+◌, ◌/◌, ◌^◌, ◌≤◌, ◌<◌}
+use Rattle.std.proofs.Common.{◌≡◌, refl, sym, ap, ◌∙◌, Bool, true, false, cond, ◌&&◌, ◌||◌, not, true≢false, List, [], ◌∷◌}
+use Rattle.std.proofs.Common.{ℕ, suc, ◌+◌, ◌/◌, ◌^◌, ◌≤◌, ◌<◌, Result, Ok, Err, IsOkAnd}
+use mathlib.Core.Bool.{or_comm}
+use mathlib.Core.List.{append-nil}
 use native.Mathlib.Omega.{arith}
 use lib.Dec.{eqb, leb, ltb}
 use lib.ListN.{length, take}
 use lib.Seq.{take-take, length-take-le}
 use borrow.Author.Tests.{lt-ltb, le-ltb, ltb-true, ltb-false, eqb-true, eq-eqb, ne_eqb, le-leb, leb-true, not-true, not-false}
 use Rattle.base.specs.Lists.{one}
+use Rattle.base.specs.declared.refusal.Refusal.{Refusal}
+use Rattle.base.specs.Refusals.{number}
+use Rattle.base.proofs.Lines.{positive}
 use Rattle.labelling.specs.declared.Tally.{Tally}
 use Rattle.labelling.specs.Votes.{rule_vote}
 use Rattle.labelling.specs.Machine.{State, state_of}
@@ -27,7 +30,7 @@ use Rattle.reader.specs.declared.Taken.{Taken}
 use Rattle.reader.specs.Shapes.{call_of, answer_of, TakePromise, LockPromise}
 use Rattle.relocking.specs.declared.Feeder.{Feeder}
 use Rattle.relocking.specs.declared.Relocked.{Relocked}
-use Rattle.relocking.specs.Relock.{stands_at_lock, feeder_in_order, relock_refusal, refused_feeder, reads, asks, leads}
+use Rattle.relocking.specs.Relock.{stands_at_lock, feeder_in_order, relock_refusal, reads, asks, leads}
 use Rattle.relocking.specs.Relock.{move, called, call_on, call_led, RelockPromise, Called, ReadsOn, LeadsIn}
 use Rattle.feeding.proofs.CallLists.{paid-one, paid-none}
 use Rattle.relocking.proofs.Waiting.{Waits, locked-waits, few_complete_none}
@@ -127,10 +130,10 @@ call-accepted f part old e =
 -- the answer of an accepted step that makes a call
 abbrev step_of : ℕ → Bool → Tally → Bool → ℕ → Relocked
 step_of taken complete t awaits n =
-    record { refusal = 0; taken = taken; complete = complete; more = false; feeder = record { tally = t; awaits = awaits; handed = n } }
+    record { taken = taken; complete = complete; more = false; feeder = record { tally = t; awaits = awaits; handed = n } }
 
-module _ (c : TakeCall) (e : take_refusal c ≡ 0) (l : Locked) (new : List ℕ) (p : LockPromise c l new) where
-  part : TakePromise (to_lock c) l.taken new
+module _ (c : TakeCall) (e : take_refusal c ≡ 0) (l : Locked) (new : List ℕ) (p : LockPromise c (Ok l) new) where
+  part : TakePromise (to_lock c) (Ok l.taken) new
   part = p.accepted e
 
   same : answer_of l.taken new ≡ answer (to_lock c)
@@ -166,13 +169,11 @@ module _ (c : TakeCall) (e : take_refusal c ≡ 0) (l : Locked) (new : List ℕ)
           go : (x : Bool) → l.taken.complete ≡ x → (y : Bool) → l.locked ≡ y → 0 < l.taken.taken
           go true x y q = part.takes_some x
           go false x true q = p.takes_some q
-          go false x false q = omega (arith, p.takes_all (p.refusal_is ∙ e) x q)
+          go false x false q = omega (arith, p.takes_all refl x q)
 
 -- ---- the lead-in, and a call
 
--- the call of the lead-in answers s and leaves the area `mid`; that on the piece answers l
-module _ (f : Feeder) (piece old : List ℕ) (a : relock_refusal f (length piece) (length old) ≡ 0) (s : Taken) (mid : List ℕ)
-    (q : TakePromise (call_of f.tally lead_in_bytes old) s mid) (kept : length mid ≡ length old) where
+module _ (f : Feeder) (piece old : List ℕ) (a : relock_refusal f (length piece) (length old) ≡ 0) where
   abbrev lead : TakeCall
   lead = lead_in (call_of f.tally piece old)
 
@@ -182,31 +183,33 @@ module _ (f : Feeder) (piece old : List ℕ) (a : relock_refusal f (length piece
   in_tally : in_order f.tally ≡ true
   in_tally = (feeder_ordered f accepting.order).in_tally
 
-  lead-accepted : take_refusal lead ≡ 0
+  pub lead-accepted : take_refusal lead ≡ 0
   lead-accepted = no_refusal f.tally lead_in_bytes old in_tally accepting.whole-area (omega (arith, accepting.fits))
 
-  pub led_is : call_of s.tally piece mid ≡ call_led f piece old
-  led_is = ap (λ (x : Answer). call_of x.tally piece x.area) q.answer_is
+  -- the call of the lead-in answers s and leaves the area `mid`; that on the piece answers l
+  module _ (s : Taken) (mid : List ℕ) (q : TakePromise (call_of f.tally lead_in_bytes old) (Ok s) mid) (kept : length mid ≡ length old) where
+    pub led_is : call_of s.tally piece mid ≡ call_led f piece old
+    led_is = ap (λ (x : Answer). call_of x.tally piece x.area) q.answer_is
 
-  mid_is : (answer lead).area ≡ mid
-  mid_is = ap (λ (x : Answer). x.area) (sym q.answer_is)
+    mid_is : (answer lead).area ≡ mid
+    mid_is = ap (λ (x : Answer). x.area) (sym q.answer_is)
 
-  pub led_accepted : take_refusal (call_led f piece old) ≡ 0
-  led_accepted =
-      let few = (accepted-extent lead lead-accepted).within in
-      no_refusal (answer lead).tally piece (answer lead).area (answer-ordered lead in_tally) (rw mid_is (kept ∙ accepting.whole-area))
-      (omega (arith, accepting.fits, accepted-bytes lead lead-accepted, few))
+    pub led_accepted : take_refusal (call_led f piece old) ≡ 0
+    led_accepted =
+        let few = (accepted-extent lead lead-accepted).within in
+        no_refusal (answer lead).tally piece (answer lead).area (answer-ordered lead in_tally) (rw mid_is (kept ∙ accepting.whole-area))
+        (omega (arith, accepting.fits, accepted-bytes lead lead-accepted, few))
 
-  pub leads_so : (l : Locked) (new : List ℕ) → LockPromise (call_of s.tally piece mid) l new
-      → let r = l.taken in
-      LeadsIn f piece old (step_of r.taken r.complete r.tally l.locked (f.handed + 1)) new
-  leads_so l new p =
-      let p' : LockPromise (call_led f piece old) l new = rw led_is at p in
-      record {
-        lead-accepted = lead-accepted;
-        led = called-so (call_led f piece old) led_accepted l new p' l.locked (locked (call_led f piece old)) (f.handed + 1)
-            (locked-so (call_led f piece old) led_accepted l new p');
-      }
+    pub leads_so : (l : Locked) (new : List ℕ) → LockPromise (call_of s.tally piece mid) (Ok l) new
+        → let r = l.taken in
+        LeadsIn f piece old (step_of r.taken r.complete r.tally l.locked (f.handed + 1)) new
+    leads_so l new p =
+        let p' : LockPromise (call_led f piece old) (Ok l) new = rw led_is at p in
+        record {
+          lead-accepted = lead-accepted;
+          led = called-so (call_led f piece old) led_accepted l new p' l.locked (locked (call_led f piece old)) (f.handed + 1)
+              (locked-so (call_led f piece old) led_accepted l new p');
+        }
 
 -- one lead-in more can be counted
 pub few_handed : (f : Feeder) (piece area : ℕ) → relock_refusal f piece area ≡ 0 → f.handed ≤ 2 ^ 40
@@ -299,10 +302,10 @@ module _ (f : Feeder) (piece : List ℕ) (ends : Bool) (old : List ℕ) (a : rel
     unfolding pays
     pays-one = paid-one (to_lock c)
 
-    pub step_reads : RelockPromise f piece ends old r new
+    pub step_reads : RelockPromise f piece ends old (Ok r) new
     step_reads = record {
-      refusal_is = ap (λ (x : Relocked). x.refusal) r-is ∙ sym a;
-      refused = λ n q. absurd (omega (arith, ap (λ (x : Relocked). x.refusal) r-is));
+      refusal_is = sym a;
+      refused = λ n q. absurd (omega arith);
       answer_is = λ q. rw m r-is;
       area_is = λ q. rw m p.area_is;
       within = omega (arith, p.within, part_length);
@@ -316,7 +319,7 @@ module _ (f : Feeder) (piece : List ℕ) (ends : Bool) (old : List ℕ) (a : rel
 -- a step that asks for more
 module _ (f : Feeder) (piece : List ℕ) (ends : Bool) (old : List ℕ) (a : relock_refusal f (length piece) (length old) ≡ 0)
     (m : move f piece ends ≡ asks) where
-  pub step_asks : RelockPromise f piece ends old (record { refusal = 0; taken = 0; complete = false; more = true; feeder = f }) old
+  pub step_asks : RelockPromise f piece ends old (Ok (record { taken = 0; complete = false; more = true; feeder = f })) old
   step_asks = record {
     refusal_is = sym a;
     refused = λ n q. absurd (omega arith);
@@ -377,10 +380,10 @@ module _ (f : Feeder) (piece : List ℕ) (ends : Bool) (old : List ℕ) (a : rel
     few = omega (arith, order.few, left-bytes d accepted, lead-bytes);
   }
 
-  pub step_leads : RelockPromise f piece ends old r new
+  pub step_leads : RelockPromise f piece ends old (Ok r) new
   step_leads = record {
-    refusal_is = ap (λ (x : Relocked). x.refusal) p.led.answer_is ∙ sym a;
-    refused = λ n q. absurd (omega (arith, ap (λ (x : Relocked). x.refusal) p.led.answer_is));
+    refusal_is = sym a;
+    refused = λ n q. absurd (omega arith);
     answer_is = λ q. rw m p.led.answer_is;
     area_is = λ q. rw m p.led.area_is;
     within = p.led.within;
@@ -392,17 +395,30 @@ module _ (f : Feeder) (piece : List ℕ) (ends : Bool) (old : List ℕ) (a : rel
   }
 
 -- a refused step
-pub step_refused : (f : Feeder) (piece : List ℕ) (ends : Bool) (old : List ℕ) (n : ℕ) → n ≡ relock_refusal f (length piece) (length old) → (n ≡ 0 → ⊥)
-    → RelockPromise f piece ends old (refused_feeder f n) old
-step_refused f piece ends old n e h = record {
-  refusal_is = e;
-  refused = λ k q. (rw q, refl);
-  answer_is = λ q. absurd (h q);
-  area_is = λ q. absurd (h q);
+pub step_refused : (f : Feeder) (piece : List ℕ) (ends : Bool) (old : List ℕ) (e : Refusal) → number e ≡ relock_refusal f (length piece) (length old)
+    → RelockPromise f piece ends old (Err e) old
+step_refused f piece ends old e is = record {
+  refusal_is = is;
+  refused = λ k q. (refl, refl);
+  answer_is = λ q. absurd (positive e q);
+  area_is = λ q. absurd (positive e q);
   within = omega arith;
-  onward = λ q x y. absurd (h q);
+  onward = λ q x y. absurd (positive e q);
   calls = [];
-  relocks = λ q. absurd (h q);
-  pays = λ q. absurd (h q);
-  stays_ordered = λ q x. absurd (h q);
+  relocks = λ q. absurd (positive e q);
+  pays = λ q. absurd (positive e q);
+  stays_ordered = λ q x. absurd (positive e q);
 }
+
+-- the same of a step that is made of calls which are not refused
+pub step_by : (f : Feeder) (piece : List ℕ) (ends : Bool) (old : List ℕ) (P : Relocked → Type 0) (r : Result Relocked Refusal) (new : List ℕ) → IsOkAnd r P
+    → ((x : Relocked) → P x → RelockPromise f piece ends old (Ok x) new) → RelockPromise f piece ends old r new
+step_by f piece ends old P (Ok x) new p by = by x p
+step_by f piece ends old P (Err e) new p by = absurd p
+
+-- a call that is accepted does not answer by a refusal
+pub take_answers : (c : TakeCall) (e : Refusal) (new : List ℕ) → TakePromise c (Err e) new → take_refusal c ≡ 0 → ⊥
+take_answers c e new p z = positive e (p.refusal_is ∙ z)
+
+pub lock_answers : (c : TakeCall) (e : Refusal) (new : List ℕ) → LockPromise c (Err e) new → take_refusal c ≡ 0 → ⊥
+lock_answers c e new p z = positive e (p.refusal_is ∙ z)

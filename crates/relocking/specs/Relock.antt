@@ -1,8 +1,9 @@
 -- What a step that locks on a frame's own sync promises. Definitions only.
-use Rattle.std.specs.Prelude.{◌≡◌, Bool, true, false, cond, ◌&&◌, ◌||◌, not, List, [], ◌∷◌, ℕ, suc, ◌+◌, ◌/◌, ◌^◌, ◌≤◌, ◌<◌, eqb, leb, ltb, length, get_or, take}
+use Rattle.std.specs.Prelude.{◌≡◌, Bool, true, false, cond, ◌&&◌, ◌||◌, not, List, [], ◌∷◌, ℕ, suc, ◌+◌, ◌/◌, ◌^◌, ◌≤◌, ◌<◌, eqb, leb, ltb, length, get_or, take, Result}
 use Rattle.base.specs.Format.{SYNC, sync_word, major_frame}
-use Rattle.base.specs.Refusals.{◌when◌, refusal}
+use Rattle.base.specs.declared.refusal.Refusal.{Refusal}
 use Rattle.base.specs.declared.refusal.Refusal.TheVariants.{NotInOrder, WrongLength, TooManyBytes}
+use Rattle.base.specs.Refusals.{◌when◌, refusal, number_of, given_or}
 use Rattle.labelling.specs.declared.Tally.{Tally}
 use Rattle.labelling.specs.Words.{Vote}
 use Rattle.labelling.specs.Votes.{rule_vote}
@@ -33,10 +34,17 @@ feeder_in_order f = in_order f.tally && (not f.awaits || stands_at_lock f.tally)
 -- the lengths of the piece and of the area; after the whole piece a lead-in must still fit into 2^40
 unfoldable pub relock_refusal : Feeder → ℕ → ℕ → ℕ
 relock_refusal f piece area =
-    refusal (NotInOrder when not (feeder_in_order f) ∷ WrongLength when not (eqb area major_frame) ∷ TooManyBytes when ltb (2 ^ 40) (f.tally.groups.bytes + piece + 12) ∷ [])
+    refusal
+    (NotInOrder when not (feeder_in_order f) ∷ WrongLength when not (eqb area major_frame)
+    ∷ TooManyBytes when ltb (2 ^ 40) (f.tally.groups.bytes + piece + 12) ∷ [])
 
-abbrev pub refused_feeder : Feeder → ℕ → Relocked
-refused_feeder f n = record { refusal = n; taken = 0; complete = false; more = false; feeder = f }
+-- a refused step takes nothing, and its feeder is the one that was given
+abbrev pub refused_feeder : Feeder → Relocked
+refused_feeder f = record { taken = 0; complete = false; more = false; feeder = f }
+
+-- what has come of a step of the feeder f that answers r
+abbrev pub relocked_by : Feeder → Result Relocked Refusal → Relocked
+relocked_by f r = given_or (refused_feeder f) r
 
 -- ---- what a step does
 
@@ -70,7 +78,7 @@ move f piece ends = cond f.awaits (decision (rule_vote f.tally.rule) (before_gro
 abbrev pub called : TakeCall → Bool → ℕ → Relocked
 called c awaits n =
     let a = answer (to_lock c) in
-    record { refusal = 0; taken = a.taken; complete = a.complete; more = false; feeder = record { tally = a.tally; awaits = awaits; handed = n } }
+    record { taken = a.taken; complete = a.complete; more = false; feeder = record { tally = a.tally; awaits = awaits; handed = n } }
 
 -- the call of a step on k bytes of the piece
 abbrev pub call_on : Feeder → List ℕ → ℕ → List ℕ → TakeCall
@@ -83,7 +91,7 @@ call_led f piece area = after_lead_in (call_of f.tally piece area)
 -- an accepted step, by its move, from the area `old`
 abbrev pub moved : Move → Feeder → List ℕ → List ℕ → Relocked
 moved (reads k) f piece old = let c = call_on f piece k old in called c (awaits_after f.awaits c) f.handed
-moved asks f piece old = record { refusal = 0; taken = 0; complete = false; more = true; feeder = f }
+moved asks f piece old = record { taken = 0; complete = false; more = true; feeder = f }
 moved leads f piece old = let d = call_led f piece old in called d (locked d) (f.handed + 1)
 
 -- the area that it leaves
@@ -101,22 +109,23 @@ led_by leads = 1
 -- ---- the promise of a step
 
 -- `relock` of a feeder on a piece answers r; the area is old before it and new afterwards
-pub record RelockPromise (f : Feeder) (piece : List ℕ) (ends : Bool) (old : List ℕ) (r : Relocked) (new : List ℕ) : Type 0 where
-  pub refusal_is : r.refusal ≡ relock_refusal f (length piece) (length old)
-  pub refused : (n : ℕ) → r.refusal ≡ suc n → (r ≡ refused_feeder f (suc n)) × (new ≡ old)
-  pub answer_is : r.refusal ≡ 0 → r ≡ moved (move f piece ends) f piece old
-  pub area_is : r.refusal ≡ 0 → new ≡ area_moved (move f piece ends) f piece old
+pub record RelockPromise (f : Feeder) (piece : List ℕ) (ends : Bool) (old : List ℕ) (r : Result Relocked Refusal) (new : List ℕ) : Type 0 where
+  pub refusal_is : number_of r ≡ relock_refusal f (length piece) (length old)
+  pub refused : (n : ℕ) → number_of r ≡ suc n → (relocked_by f r ≡ refused_feeder f) × (new ≡ old)
+  pub answer_is : number_of r ≡ 0 → relocked_by f r ≡ moved (move f piece ends) f piece old
+  pub area_is : number_of r ≡ 0 → new ≡ area_moved (move f piece ends) f piece old
   -- it leads on within the piece, or asks for more
-  pub within : r.taken ≤ length piece
-  pub onward : r.refusal ≡ 0 → r.more ≡ false → 0 < length piece → 0 < r.taken
+  pub within : (relocked_by f r).taken ≤ length piece
+  pub onward : number_of r ≡ 0 → (relocked_by f r).more ≡ false → 0 < length piece → 0 < (relocked_by f r).taken
   -- its calls are part of a list that locks on a frame's own sync: they have taken the bytes as far as `taken`
   pub calls : List Call
-  pub relocks : r.refusal ≡ 0
-      → RelockedCalls f.awaits f.tally old (take r.taken piece) calls r.feeder.awaits r.feeder.tally new (led_by (move f piece ends))
+  pub relocks : number_of r ≡ 0
+      → let left = relocked_by f r in
+      RelockedCalls f.awaits f.tally old (take left.taken piece) calls left.feeder.awaits left.feeder.tally new (led_by (move f piece ends))
   -- the frame that they pay, if any, is in the area
-  pub pays : r.refusal ≡ 0 → paid calls ≡ cond r.complete (new ∷ []) []
+  pub pays : number_of r ≡ 0 → paid calls ≡ cond (relocked_by f r).complete (new ∷ []) []
   -- a feeder in order is left, unless the stream has ended
-  pub stays_ordered : r.refusal ≡ 0 → (ends ≡ true → r.taken < length piece) → feeder_in_order r.feeder ≡ true
+  pub stays_ordered : number_of r ≡ 0 → (ends ≡ true → (relocked_by f r).taken < length piece) → feeder_in_order (relocked_by f r).feeder ≡ true
 
 -- ---- its parts
 

@@ -3,14 +3,15 @@
 // the hunt fill places 0 to 2 of their own frame.
 #![tactic(auto)]
 
-ghost use Rattle.std.specs.Prelude.{◌≡◌, Bool, true, false, ◌+◌, ◌≤◌, ◌<◌, length};
+ghost use Rattle.std.specs.Prelude.{◌≡◌, Bool, true, false, ◌+◌, ◌≤◌, ◌<◌, length, IsOkAnd};
+ghost use Rattle.base.specs.Refusals.{number_of};
 ghost use Rattle.base.specs.Format.{sync_word};
 ghost use Rattle.labelling.specs.MinorFrames.{is_word};
 ghost use Rattle.labelling.specs.Votes.{rule_vote};
-ghost use Rattle.relocking.specs.Relock.{feeder_in_order, before_group, relock_refusal, refused_feeder, ReadsOn, LeadsIn, RelockPromise};
+ghost use Rattle.relocking.specs.Relock.{feeder_in_order, before_group, relock_refusal, ReadsOn, LeadsIn, RelockPromise};
 
 use base::format::{MAJOR_FRAME, SYNC, SYNC_WORD_0};
-use base::refusal::{NOT_IN_ORDER, TOO_MANY_BYTES, WRONG_LENGTH};
+use base::refusal::Refusal;
 use labelling::{Tally, Word};
 use order::LIMIT;
 
@@ -27,11 +28,9 @@ pub struct Feeder {
     pub handed: u64,
 }
 
-// The answer of a step.
+// What a step that is not refused has done.
 #[derive(Clone, Copy)]
 pub struct Relocked {
-    // 0, or the number of the refusal: the feeder is not in order, the area has another length than a major frame, or too many bytes.
-    pub refusal: u8,
     // How many bytes of the piece were taken. The next step goes on there.
     pub taken: usize,
     // Whether a major frame is complete; the area holds it.
@@ -43,14 +42,12 @@ pub struct Relocked {
 
 // One step on a piece of the reel, of any length. It takes the piece as far as the byte that completes a major frame or ends a hunt, or as far as the
 // SYNC of the word that decides; `ends` says that no more bytes follow the piece, so that those of a group that is not whole are taken as they are.
-// It is refused 3 where the lead-in would not fit after the whole piece.
-pub fn relock(f: Feeder, piece: &[u8], ends: bool, area: &mut [u8]) -> Relocked
+// Refused 1: the feeder is not in order. Refused 2: the area has another length than a major frame. Refused 3: the lead-in would not fit after the
+// whole piece. A refusal writes nothing, and the caller's feeder stands.
+pub fn relock(f: Feeder, piece: &[u8], ends: bool, area: &mut [u8]) -> Result<Relocked, Refusal>
     ensures { RelockPromise f piece.now ends area.old result area.new }
 {
-    let number = refusal(f, piece.len(), area.len());
-    if number != 0 {
-        return refused(f, number);
-    }
+    permitted(f, piece.len(), area.len())?;
     if !f.awaits {
         return read_on(f, piece, false, area);
     }
@@ -61,24 +58,24 @@ pub fn relock(f: Feeder, piece: &[u8], ends: bool, area: &mut [u8]) -> Relocked
     decide(f, piece, ends, area)
 }
 
-// The number of the refusal, 0 for none.
-fn refusal(f: Feeder, piece: usize, area: usize) -> u8
-    ensures { result ≡ relock_refusal f piece area }
+// Whether a step from this feeder is refused, by the lengths of the piece and of the area.
+fn permitted(f: Feeder, piece: usize, area: usize) -> Result<(), Refusal>
+    ensures { number_of result ≡ relock_refusal f piece area }
 {
     if !in_order(f) {
-        return NOT_IN_ORDER;
+        return Err(Refusal::NotInOrder);
     }
     if area != MAJOR_FRAME {
-        return WRONG_LENGTH;
+        return Err(Refusal::WrongLength);
     }
     let left = LIMIT - f.tally.groups.bytes;
     if left < LEAD_IN {
-        return TOO_MANY_BYTES;
+        return Err(Refusal::TooManyBytes);
     }
     if left - LEAD_IN < piece as u64 {
-        return TOO_MANY_BYTES;
+        return Err(Refusal::TooManyBytes);
     }
-    0
+    Ok(())
 }
 
 // Whether the tally is in order, and what is beside it goes with it: a lock that awaits its word stands before place 0 and outside a group.
@@ -88,18 +85,6 @@ fn in_order(f: Feeder) -> bool
     let t = f.tally;
     let at_lock = !t.framing.hunting & (t.framing.placed == 0) & (t.groups.open == 0);
     reader::in_order(t) & (!f.awaits | at_lock) & (f.handed <= t.groups.bytes / LEAD_IN)
-}
-
-fn refused(f: Feeder, number: u8) -> Relocked
-    ensures { result ≡ refused_feeder f number }
-{
-    Relocked {
-        refusal: number,
-        taken: 0,
-        complete: false,
-        more: false,
-        feeder: f,
-    }
 }
 
 // How many bytes stand before the first SYNC: while a lock awaits its word they are no part of one.
@@ -117,7 +102,7 @@ pub fn before_group(piece: &[u8]) -> usize
 }
 
 // A lock awaits its word, and the piece is empty or begins with the SYNC of that word's group.
-fn decide(f: Feeder, piece: &[u8], ends: bool, area: &mut [u8]) -> Relocked
+fn decide(f: Feeder, piece: &[u8], ends: bool, area: &mut [u8]) -> Result<Relocked, Refusal>
     requires { (relock_refusal f (length piece.now) (length area.old) ≡ 0) × (f.awaits ≡ true) × (before_group piece.now ≡ 0) }
     ensures { RelockPromise f piece.now ends area.old result area.new }
 {
@@ -125,13 +110,12 @@ fn decide(f: Feeder, piece: &[u8], ends: bool, area: &mut [u8]) -> Relocked
         if ends | (piece.len() == 0) {
             return read_on(f, piece, true, area);
         }
-        return Relocked {
-            refusal: 0,
+        return Ok(Relocked {
             taken: 0,
             complete: false,
             more: true,
             feeder: f,
-        };
+        });
     }
     if begins_frame(f.tally.rule, piece[1], piece[2], piece[3]) {
         return read_on(f, piece, false, area);
@@ -162,13 +146,13 @@ fn is_first(w: Word) -> bool
     }
 }
 
-// One call as far as a lock. `waits` says that the lock before it goes on waiting: the part gives no word.
-fn read_on(f: Feeder, part: &[u8], waits: bool, area: &mut [u8]) -> Relocked
+// One call as far as a lock, which is not refused. `waits` says that the lock before it goes on waiting: the part gives no word.
+fn read_on(f: Feeder, part: &[u8], waits: bool, area: &mut [u8]) -> Result<Relocked, Refusal>
     requires { relock_refusal f (length part.now) (length area.old) ≡ 0 }
-    ensures { ReadsOn f part.now waits area.old result area.new }
+    ensures { IsOkAnd result (λ r. ReadsOn f part.now waits area.old r area.new) }
 {
     let t = f.tally;
-    let r = reader::take_to_lock(t, part, area);
+    let r = reader::take_to_lock(t, part, area)?;
     let answer = r.taken;
     let left = answer.tally;
     let next = Feeder {
@@ -176,24 +160,23 @@ fn read_on(f: Feeder, part: &[u8], waits: bool, area: &mut [u8]) -> Relocked
         awaits: waits | r.locked,
         handed: f.handed,
     };
-    Relocked {
-        refusal: 0,
+    Ok(Relocked {
         taken: answer.taken,
         complete: answer.complete,
         more: false,
         feeder: next,
-    }
+    })
 }
 
-// The lead-in, and then a call on the piece.
-fn lead_in(f: Feeder, piece: &[u8], area: &mut [u8]) -> Relocked
+// The lead-in, and then a call on the piece; neither is refused.
+fn lead_in(f: Feeder, piece: &[u8], area: &mut [u8]) -> Result<Relocked, Refusal>
     requires { relock_refusal f (length piece.now) (length area.old) ≡ 0 }
-    ensures { LeadsIn f piece.now area.old result area.new }
+    ensures { IsOkAnd result (λ r. LeadsIn f piece.now area.old r area.new) }
 {
     let t = f.tally;
-    let lead = reader::take(t, b"\x16\xfa\xfa\xfa\x16\xf3\xf3\xf3\x16\x20\x20\x20", area);
+    let lead = reader::take(t, b"\x16\xfa\xfa\xfa\x16\xf3\xf3\xf3\x16\x20\x20\x20", area)?;
     let led = lead.tally;
-    let r = reader::take_to_lock(led, piece, area);
+    let r = reader::take_to_lock(led, piece, area)?;
     let last = r.taken;
     let left = last.tally;
     let next = Feeder {
@@ -201,11 +184,10 @@ fn lead_in(f: Feeder, piece: &[u8], area: &mut [u8]) -> Relocked
         awaits: r.locked,
         handed: f.handed + 1,
     };
-    Relocked {
-        refusal: 0,
+    Ok(Relocked {
         taken: last.taken,
         complete: last.complete,
         more: false,
         feeder: next,
-    }
+    })
 }

@@ -1,6 +1,7 @@
 // The calls, and what they answer.
 ghost use Rattle.std.specs.Prelude.{◌≡◌, ◌≤◌, length};
 
+use base::refusal;
 use labelling::Tally;
 
 // One more than an area has.
@@ -38,11 +39,11 @@ pub(crate) fn answered(call: u64, t: Tally, value: u64, piece: &[u8]) -> Answer 
     }
     if call == CHANGE {
         let a = reader::change_duty(t, value);
-        return only(a.tally, a.refusal);
+        return only(a.unwrap_or(t), refusal::code(a));
     }
     if call == FRESH {
         let a = reader::fresh(value);
-        return only(a.tally, a.refusal);
+        return only(a.tally, refusal::code(a.answer));
     }
     only(t, 0)
 }
@@ -63,15 +64,14 @@ fn taken(t: Tally, room: usize, piece: &[u8]) -> Answer
     let mut space = blank();
     let area = &mut space[0..room];
     let a = reader::take(t, piece, &mut *area);
-    let changed = vectors::others(area, BEFORE);
-    let u = a.tally;
-    Answer {
-        tally: u,
-        refusal: a.refusal as u64,
-        taken: a.taken as u64,
-        complete: vectors::bit(a.complete),
-        changed: changed,
+    let mut answer = only(t, refusal::code(a));
+    answer.changed = vectors::others(area, BEFORE);
+    if let Ok(a) = a {
+        answer.tally = a.tally;
+        answer.taken = a.taken as u64;
+        answer.complete = vectors::bit(a.complete);
     }
+    answer
 }
 
 // What is in the room before a call. Callers know only its length: a check that counted so many bytes one by one would take long.

@@ -1,15 +1,16 @@
 -- A whole reel by steps. What is read so far is a list of calls that locks on a frame's own sync, which has taken the stream as far as the place reached;
 -- the claim about that list bounds its lead-ins, so that no step is refused. Assumes nothing.
-use mathlib.Core.Path.{◌≡◌, refl, sym, ap, ◌∙◌}
-use mathlib.Core.Bool.{Bool, true, false, cond, not}
-use mathlib.Core.List.{List, [], ◌∷◌, ◌++◌}
-use Prim.Native.Nat.{ℕ, zero, suc, ◌+◌, ◌-◌, ◌^◌, ◌≤◌, ◌<◌}
+use Rattle.std.proofs.Common.{◌≡◌, refl, sym, ap, ◌∙◌, Bool, true, false, cond, not, List, [], ◌∷◌, ◌++◌}
+use Rattle.std.proofs.Common.{ℕ, zero, suc, ◌+◌, ◌-◌, ◌^◌, ◌≤◌, ◌<◌, Result, Ok, Err, IsOkAnd}
 use native.Mathlib.Omega.{arith}
 use lib.Dec.{eqb, ltb, eqb-suc-zero}
 use lib.ListN.{length, take, drop, length-append, length-drop}
 use lib.Seq.{take-add, take_all, length-take-le}
 use borrow.Author.Tests.{lt-ltb, le-ltb, ltb-false, eqb-true, eq-eqb, ne_eqb}
 use Rattle.base.specs.Lists.{one}
+use Rattle.base.specs.declared.refusal.Refusal.{Refusal}
+use Rattle.base.specs.Refusals.{number}
+use Rattle.base.proofs.Lines.{positive}
 use Rattle.labelling.specs.declared.Tally.{Tally}
 use Rattle.labelling.specs.Words.{words}
 use Rattle.labelling.specs.Votes.{rule_vote}
@@ -107,23 +108,20 @@ module _ (rule : ℕ) (is_rule_fact : is_rule rule ≡ true) (s old : List ℕ) 
       fits = rw (length-drop at s) bytes_few;
     }
 
-    module _ (more : at < length s) (r : Relocked) (b : List ℕ) (p : RelockPromise f (drop at s) true a r b) where
-      z : r.refusal ≡ 0
-      z = p.refusal_is ∙ step_accepted more
-
+    module _ (more : at < length s) (r : Relocked) (b : List ℕ) (p : RelockPromise f (drop at s) true a (Ok r) b) where
       left : length (drop at s) ≡ length s - at
       left = length-drop at s
 
       pub leads_on : 0 < r.taken
       leads_on =
-          let none : r.more ≡ false = ap (λ (x : Relocked). x.more) (p.answer_is z) ∙ no_more f (drop at s) a in
-          p.onward z none (omega (arith, left))
+          let none : r.more ≡ false = ap (λ (x : Relocked). x.more) (p.answer_is refl) ∙ no_more f (drop at s) a in
+          p.onward refl none (omega (arith, left))
 
       pub stays_in : at + r.taken ≤ length s
       stays_in = omega (arith, p.within, left)
 
       paid-one : length (paid p.calls) ≡ one r.complete
-      paid-one = ap length (p.pays z) ∙ go r.complete
+      paid-one = ap length (p.pays refl) ∙ go r.complete
         where
           go : (c : Bool) → length (cond c (b ∷ []) []) ≡ one c
           go true = refl
@@ -143,14 +141,14 @@ module _ (rule : ℕ) (is_rule_fact : is_rule rule ≡ true) (s old : List ℕ) 
         calls = i.calls ++ p.calls;
         relocks =
             let count : r.feeder.handed ≡ f.handed + led_by (move f (drop at s) true) =
-            ap (λ (x : Relocked). x.feeder.handed) (p.answer_is z) ∙ handed-more (move f (drop at s) true) f (drop at s) a in
-            rw (count, take-add at r.taken s) (relocked_append i.relocks (p.relocks z));
+            ap (λ (x : Relocked). x.feeder.handed) (p.answer_is refl) ∙ handed-more (move f (drop at s) true) f (drop at s) a in
+            rw (count, take-add at r.taken s) (relocked_append i.relocks (p.relocks refl));
         paid-is = omega (arith, i.paid-is, ap length (paid-append i.calls p.calls), length-append (paid i.calls) (paid p.calls), paid-one);
-        order = λ h. p.stays_ordered z (λ q. omega (arith, left));
+        order = λ h. p.stays_ordered refl (λ q. omega (arith, left));
         kept = same ∙ i.kept;
       }
 
-    pub read-ends : length s ≤ at → WholeReel rule s old (record { refusal = 0; paid = n; feeder = f }) a
+    pub read-ends : length s ≤ at → WholeReel rule s old (record { paid = n; feeder = f }) a
     read-ends h =
         let all : take at s ≡ s = take_all at s h in
         record { calls = i.calls; relocks = rw all at i.relocks; once = rw all at once; paid-is = i.paid-is }
@@ -159,6 +157,11 @@ module _ (rule : ℕ) (is_rule_fact : is_rule rule ≡ true) (s old : List ℕ) 
 
 pub refused-rule : (n stream area : ℕ) → (n ≡ 0 → ⊥) → n ≡ refusal_after n stream area
 refused-rule n stream area h = rw (ne_eqb n 0 h)
+
+-- a step of an accepted reading does not answer by a refusal
+pub step_answers : {f : Feeder} {piece old new : List ℕ} {ends : Bool} (e : Refusal) → RelockPromise f piece ends old (Err e) new
+    → relock_refusal f (length piece) (length old) ≡ 0 → ⊥
+step_answers e p z = positive e (p.refusal_is ∙ z)
 
 module _ (stream area : ℕ) where
   pub refused-area : (area ≡ 16384 → ⊥) → 2 ≡ refusal_after 0 stream area
@@ -169,6 +172,15 @@ module _ (stream area : ℕ) where
 
   pub not_refused : area ≡ 16384 → stream ≤ longest → 0 ≡ refusal_after 0 stream area
   not_refused e h = rw (eq-eqb area 16384 e, le-ltb longest stream h)
+
+-- by the rule, or by the lengths
+pub rule-refused : (rule stream area : ℕ) (e : Refusal) → number e ≡ fresh_refusal rule → number e ≡ read_refusal rule stream area
+unfolding read_refusal
+rule-refused rule stream area e q = rw (← q) (refused-rule (number e) stream area (positive e))
+
+pub by_lengths : (rule stream area n : ℕ) → 0 ≡ fresh_refusal rule → n ≡ refusal_after 0 stream area → n ≡ read_refusal rule stream area
+unfolding read_refusal
+by_lengths rule stream area n z q = rw (← z) q
 
 -- what an accepted reading has shown
 pub record ReadAccepts (n stream area : ℕ) : Type 0 where
@@ -213,18 +225,8 @@ module _ (rule : ℕ) (stream old : List ℕ) (t : Tally) (e : t ≡ fresh (rule
   begun-is : begun ≡ beginning (rule_given rule)
   begun-is = ap (λ (x : Tally). record { tally = x; awaits = false; handed = 0 }) e
 
-  abbrev answered : ℕ → Feeder → Reel
-  answered n f = record { refusal = n; paid = 0; feeder = f }
-
-  pub read-refused : (n : ℕ) → n ≡ read_refusal rule (length stream) (length old) → (n ≡ 0 → ⊥)
-      → ReadPromise rule stream old (record { refusal = n; paid = 0; feeder = begun }) old
-  read-refused n q h = record {
-    refusal_is = q;
-    refused = λ k z.
-        let number : answered n begun ≡ answered (suc k) begun = ap (λ (x : ℕ). answered x begun) z in
-        (number ∙ ap (answered (suc k)) begun-is, refl);
-    accepted = λ z. absurd (h z);
-  }
+  pub read-refused : (e : Refusal) → number e ≡ read_refusal rule (length stream) (length old) → ReadPromise rule stream old (Err e) old
+  read-refused e q = record { refusal_is = q; refused = λ k z. (refl, refl); accepted = λ z. absurd (positive e z) }
 
   module _ (z : read_refusal rule (length stream) (length old) ≡ 0) where
     accepting : ReadAccepts (fresh_refusal rule) (length stream) (length old)
@@ -242,9 +244,10 @@ module _ (rule : ℕ) (stream old : List ℕ) (t : Tally) (e : t ≡ fresh (rule
       whole-area = accepting.whole-area;
     }
 
-    pub read_whole : (r : Reel) (new : List ℕ) → ReadAll begun stream old r new → ReadPromise rule stream old r new
-    read_whole r new p = record {
-      refusal_is = p.no_refusal ∙ sym z;
-      refused = λ n q. absurd (omega (arith, p.no_refusal));
+    pub read_whole : (r : Result Reel Refusal) (new : List ℕ) → IsOkAnd r (λ x. ReadAll begun stream old x new) → ReadPromise rule stream old r new
+    read_whole (Ok x) new p = record {
+      refusal_is = sym z;
+      refused = λ n q. absurd (omega arith);
       accepted = λ q. rw carried at p.whole;
     }
+    read_whole (Err e) new p = absurd p

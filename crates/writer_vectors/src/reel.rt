@@ -151,12 +151,10 @@ fn read_reel(reel: &[u8], frames: &[u8], piece: usize, area: &mut [u8]) -> Readi
     let mut at: usize = 0;
     while at < reel.len() {
         let t = r.tally;
-        let s = feeding::step(t, reel, at, piece, &mut *area);
-        let a = s.taken;
-        r = answered(r, a, frames, &*area);
-        if a.refusal != 0 {
+        let Ok(s) = feeding::step(t, reel, at, piece, &mut *area) else {
             return r;
-        }
+        };
+        r = answered(r, s.taken, frames, &*area);
         at = s.at;
     }
     r

@@ -4,4 +4,4 @@ use Rattle.crossing.proofs.fresh.Goals as goal
 
 pub returns : goal.returns
 returns c =
-    rw (c.put_tally.ensures.n_after, c.put_tally.ensures.frame_after) (fresh-crossed c.fresh-r.ensures)
+    rw (c.put_tally.ensures.n_after, c.put_tally.ensures.frame_after) (rw c.code.ensures (fresh-crossed c.fresh-r.ensures))

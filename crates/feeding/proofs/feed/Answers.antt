@@ -1,37 +1,31 @@
-use mathlib.Core.Path.{◌≡◌, ◌∙◌, refl}
+use Rattle.std.proofs.Common.{◌≡◌, ◌∙◌, refl, length}
 use native.Mathlib.Omega.{arith}
-use lib.ListN.{length}
+use Rattle.std.proofs.lemmas.Result.{err_from_is_err_and}
 use Rattle.feeding.proofs.Reading.{begins, goes_on, further, ends, stops}
 use Rattle.feeding.proofs.feed.Goals as goal
-use Rattle.feeding.proofs.feed.Goals.{After-next-f}
+use Rattle.feeding.proofs.feed.Goals.{After-next}
 
 pub loop-f-init : goal.loop-f-init
 loop-f-init c = (begins _ _ _, refl)
 
-pub next-f-requires : goal.next-f-requires
-next-f-requires c = let i = c.loop-f.invariant.0 in (i.within, i.few)
-
 -- after a call
-module _ (w : After-next-f) where
-  kept : length w.next-f.new.area ≡ length w.loop-f.area
-  kept = w.next-f.auto.area
+module _ (w : After-next) where
+  kept : length w.next.new.area ≡ length w.loop-f.area
+  kept = w.next.auto.area
 
-pub shape_of-area-then-f-ne0 : goal.shape_of-area-then-f-ne0
-shape_of-area-then-f-ne0 c = kept (goal.at.shape_of-area-then-f-ne0 c).After-next-f ∙ c.loop-f.invariant.1
-
-pub returns-then-f-ne0 : goal.returns-then-f-ne0
-returns-then-f-ne0 c = stops c.loop-f.invariant.0 c.next-f.ensures c.if-f-ne0.true
-
-pub shape_of-area-then-stream-f : goal.shape_of-area-then-stream-f
-shape_of-area-then-stream-f c = kept (goal.at.shape_of-area-then-stream-f c).After-next-f ∙ c.loop-f.invariant.1
+pub returns-in_err-f : goal.returns-in_err-f
+returns-in_err-f c =
+    let p = err_from_is_err_and c.from_residual.result c.from_residual.ensures.1 in
+    rw (p.1, p.2) (stops _ c.loop-f.invariant.0 c.in_err-f.ensures)
 
 pub returns-then-stream-f : goal.returns-then-stream-f
 returns-then-stream-f c =
-    ends c.loop-f.invariant.0 c.next-f.ensures c.if-f-ne0.false (kept (goal.at.returns-then-stream-f c).After-next-f) (omega (arith, c.if-stream-f.true))
+    ends c.loop-f.invariant.0 c.in_ok-f.ensures (kept (goal.at.returns-then-stream-f c).After-next) (omega (arith, c.if-stream-f.true))
 
 pub loop-f-smaller : goal.loop-f-smaller
-loop-f-smaller c = further c.loop-f.invariant.0 c.next-f.ensures c.if-f-ne0.false c.if-stream-f.false
+loop-f-smaller c = further c.loop-f.invariant.0 c.in_ok-f.ensures c.if-stream-f.false
 
 pub loop-f-preserved : goal.loop-f-preserved
 loop-f-preserved c =
-    (goes_on c.loop-f.invariant.0 c.next-f.ensures c.if-f-ne0.false (kept (goal.at.loop-f-preserved c).After-next-f), kept (goal.at.loop-f-preserved c).After-next-f ∙ c.loop-f.invariant.1)
+    let same = kept (goal.at.loop-f-preserved c).After-next in
+    (goes_on c.loop-f.invariant.0 c.in_ok-f.ensures same, same ∙ c.loop-f.invariant.1)

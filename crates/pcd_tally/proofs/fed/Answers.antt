@@ -6,14 +6,14 @@ use lib.ListN.{length}
 use Rattle.pcd_tally.proofs.Laws.{within-limit, taken-within, piece_refused, piece_taken}
 use Rattle.pcd_tally.proofs.fed.Goals as goal
 
-pub returns-then-f-ne0 : goal.returns-then-f-ne0
-returns-then-f-ne0 c = piece_refused _ _ _ _ _ c.requires c.feed-f.ensures c.if-f-ne0.true
+pub returns-in_default : goal.returns-in_default
+returns-in_default c = piece_refused _ _ _ _ c.requires _ c.in_default.ensures
 
 pub overflow_add-result : goal.overflow_add-result
 overflow_add-result c =
     let few = within-limit c.requires in
-    let more : c.feed-f.result.taken ≤ length c.args.piece.now = taken-within _ _ _ _ c.feed-f.ensures in
+    let more : c.in-Ok.f.taken ≤ length c.args.piece.now = taken-within _ _ _ _ c.in-Ok.ensures in
     record { fits = omega (arith, few, more) }
 
 pub returns : goal.returns
-returns c = piece_taken _ _ _ _ _ c.requires c.feed-f.ensures c.if-f-ne0.false
+returns c = piece_taken _ _ _ _ c.requires _ c.in-Ok.ensures

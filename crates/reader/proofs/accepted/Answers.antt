@@ -26,5 +26,5 @@ pub returns : goal.returns
 returns c =
     let a = c.args in
     let q = part-fits a.stop a.t a.piece.now a.area.now c.requires.0 c.requires.1 c.requires.2 in
-    accepted-promise refl q
+    accepted-promise q
     (rw (c.together-tally.ensures, c.booked-operators.ensures) (ap (λ (r : Progress). answer_with a.t r) c.run-r.ensures))

@@ -9,16 +9,13 @@ pub loop-at-init : goal.loop-at-init
 loop-at-init g c = c.probe-r.auto.area ∙ c.requires
 
 pub stepped-requires : goal.stepped-requires
-stepped-requires g c = c.step-s.auto.area ∙ c.loop-at.invariant
-
-pub shape_of-area-then-a-ne0 : goal.shape_of-area-then-a-ne0
-shape_of-area-then-a-ne0 g c = c.stepped.auto.area ∙ c.step-s.auto.area ∙ c.loop-at.invariant ∙ sym c.requires
+stepped-requires g c = c.step.auto.area ∙ c.loop-at.invariant
 
 pub loop-at-smaller : goal.loop-at-smaller
-loop-at-smaller g c = omega (arith, c.step-s.ensures.onward c.if-a-ne0.false c.loop-at-test.true)
+loop-at-smaller g c = omega (arith, c.in-Ok.ensures.onward c.loop-at-test.true)
 
 pub loop-at-preserved : goal.loop-at-preserved
-loop-at-preserved g c = c.stepped.auto.area ∙ c.step-s.auto.area ∙ c.loop-at.invariant
+loop-at-preserved g c = c.stepped.auto.area ∙ c.step.auto.area ∙ c.loop-at.invariant
 
 pub shape_of-area : goal.shape_of-area
 shape_of-area g c = c.loop-at.invariant ∙ sym c.requires

@@ -5,4 +5,4 @@ use Rattle.reel_reading.proofs.change_duty.Goals as goal
 
 pub returns : goal.returns
 returns c =
-    (λ a h. stands_duty c.args.reel _ c.args.operator a c.change_duty-changed.ensures.tally_is refl refl refl refl h, refl)
+    (λ a h. stands_duty c.args.reel _ c.args.operator a c.in-Ok.ensures.tally_is refl refl refl refl h, refl)

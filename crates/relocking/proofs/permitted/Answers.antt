@@ -1,4 +1,4 @@
--- `relocking::refusal` meets its contract: its tests are the refusal table's, in the table's order. Assumes nothing.
+-- `relocking::permitted` meets its contract: its tests are the refusal table's, in the table's order. Assumes nothing.
 use mathlib.Core.Path.{◌≡◌, sym, ◌∙◌}
 use mathlib.Core.Bool.{true}
 use Prim.Native.Nat.{◌≤◌, ◌^◌}
@@ -6,8 +6,8 @@ use native.Mathlib.Omega.{arith}
 use Rattle.labelling.proofs.Ordered.{bytes_within}
 use Rattle.relocking.specs.Relock.{feeder_in_order}
 use Rattle.relocking.proofs.Relocking.{feeder_ordered, not_in_order, wrong-area, too_long, accepted-by}
-use Rattle.relocking.proofs.refusal.Goals as goal
-use Rattle.relocking.proofs.refusal.Goals.{Else-not-in_order}
+use Rattle.relocking.proofs.permitted.Goals as goal
+use Rattle.relocking.proofs.permitted.Goals.{Else-not-in_order}
 
 pub returns-then-not-in_order : goal.returns-then-not-in_order
 returns-then-not-in_order c =
