@@ -1,7 +1,0 @@
--- `map_cells::at` meets its contract: beyond the cells there is nothing. Assumes nothing.
-use mathlib.Core.Path.{sym}
-use lib.ListN.{get_or-eq_default}
-use Rattle.map_cells.proofs.at.Goals as goal
-
-pub returns : goal.returns
-returns c = sym (get_or-eq_default c.args.cells.now 0 c.if-i-cells.false)
