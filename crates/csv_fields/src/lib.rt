@@ -1,9 +1,10 @@
 // Fields of comma-separated values as RFC 4180 has them, and integers as text. A program puts the commas and ends each line with a line feed.
 #![tactic(auto)]
 
-ghost use Rattle.std.specs.Prelude.{◌≡◌, nat_abs};
+ghost use Rattle.std.specs.Prelude.{◌≡◌};
+ghost use Rattle.std.specs.List.{list_any};
 ghost use Rattle.command.specs.Text.{Adds};
-ghost use Rattle.csv_fields.specs.Fields.{is_special, is_plain, doubled, quoted, csv_field, number_field, integer_text};
+ghost use Rattle.csv_fields.specs.Fields.{is_special, doubled, quoted, csv_field, number_field, integer_text};
 
 use command::{put, put_byte, put_field, put_number};
 
@@ -11,7 +12,7 @@ use command::{put, put_byte, put_field, put_number};
 pub fn put_csv_field(out: &mut [u8], at: usize, text: &[u8]) -> usize
     ensures { Adds out.old at (csv_field text.now) out.new result }
 {
-    if is_plain(text) {
+    if !is_quoted(text) {
         return put(out, at, text);
     }
     let begun = put_byte(&mut *out, at, b'"');
@@ -32,33 +33,16 @@ pub fn put_integer(out: &mut [u8], at: usize, n: i64) -> usize
     ensures { Adds out.old at (integer_text n) out.new result }
 {
     if n < 0 {
-        return put_field(out, at, b"-", magnitude(n));
+        return put_field(out, at, b"-", n.unsigned_abs());
     }
-    put_number(out, at, magnitude(n))
+    put_number(out, at, n.unsigned_abs())
 }
 
-// An integer without its sign. All bits of a negative one inverted are one less.
-fn magnitude(n: i64) -> u64
-    ensures { result ≡ nat_abs n }
+// Whether a field needs quotes.
+fn is_quoted(text: &[u8]) -> bool
+    ensures { result ≡ list_any is_special text.now }
 {
-    if n < 0 {
-        return !n as u64 + 1;
-    }
-    n as u64
-}
-
-// Whether a field needs no quotes.
-fn is_plain(text: &[u8]) -> bool
-    ensures { result ≡ is_plain text.now }
-{
-    let mut i: usize = 0;
-    while i < text.len() {
-        if is_special(text[i]) {
-            return false;
-        }
-        i += 1;
-    }
-    true
+    text.iter().any(|&b| is_special(b))
 }
 
 fn is_special(b: u8) -> bool
@@ -72,10 +56,8 @@ fn put_doubled(out: &mut [u8], at: usize, text: &[u8]) -> usize
     ensures { Adds out.old at (doubled text.now) out.new result }
 {
     let mut end = put(&mut *out, at, b"");
-    let mut i: usize = 0;
-    while i < text.len() {
-        end = put_quoted(&mut *out, end, text[i]);
-        i += 1;
+    for &b in text {
+        end = put_quoted(&mut *out, end, b);
     }
     end
 }

@@ -1,12 +1,16 @@
 -- `csv_fields::put_csv_field` meets its contract: as it is, or in quotes. Assumes nothing.
-use mathlib.Core.Path.{sym, ◌∙◌}
+use Rattle.std.proofs.Common.{◌≡◌, sym, ap, ◌∙◌, true, false, not}
 use Rattle.command.proofs.TextLaws.{adds_append}
+use Rattle.csv_fields.specs.Fields.{is_plain}
+use Rattle.csv_fields.proofs.Laws.{plain_any}
 use Rattle.csv_fields.proofs.put_csv_field.Goals as goal
 
-pub returns-then-is_plain : goal.returns-then-is_plain
-returns-then-is_plain c = rw (sym c.is_plain.ensures ∙ c.if-is_plain.true) c.put.ensures
+pub returns-then-not-is_quoted : goal.returns-then-not-is_quoted
+returns-then-not-is_quoted c =
+    let plain : is_plain c.args.text.now ≡ true = sym (plain_any c.args.text.now) ∙ ap not (sym c.is_quoted.ensures ∙ c.if-not-is_quoted.true) in
+    rw plain c.put.ensures
 
 pub returns : goal.returns
 returns c =
-    let quoted = adds_append (adds_append c.put_byte-begun.ensures c.put_doubled-inside.ensures) c.put_byte.ensures in
-    rw (sym c.is_plain.ensures ∙ c.if-is_plain.false) quoted
+    let special : is_plain c.args.text.now ≡ false = sym (plain_any c.args.text.now) ∙ ap not (sym c.is_quoted.ensures ∙ c.if-not-is_quoted.false) in
+    rw special (adds_append (adds_append c.put_byte-begun.ensures c.put_doubled-inside.ensures) c.put_byte.ensures)
