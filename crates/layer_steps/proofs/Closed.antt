@@ -2,6 +2,7 @@
 use mathlib.Core.Path.{◌≡◌, refl, sym, ap, ◌∙◌, subst}
 use mathlib.Core.Bool.{Bool, true, false, not, cond, ◌&&◌, true≢false}
 use mathlib.Core.List.{List}
+use Rattle.std.proofs.Common.{◌⊎◌, inl, inr}
 use Prim.Native.Nat.{ℕ, ◌*◌, ◌≤◌, ◌<◌}
 use native.Mathlib.Omega.{arith}
 use lib.Dec.{eqb, ltb}
@@ -9,9 +10,10 @@ use lib.ListN.{get_or}
 use lib.Seq.{paste}
 use borrow.Author.Tests.{eqb-true, eq-eqb, ne_eqb, lt-ltb, le-ltb}
 use Rattle.base.specs.Format.{minor_frame, number_place}
-use Rattle.labelling.specs.declared.FrameClass.TheVariants.{Good}
+use Rattle.labelling.specs.declared.FrameClass.{FrameClass}
+use Rattle.labelling.specs.declared.FrameClass.TheVariants.{Good, Damaged, Unsynced}
 use Rattle.labelling.specs.declared.Runs.{Runs}
-use Rattle.labelling.specs.Machine.{FrameEvent, extends, completes, starts, stands-alone, good_event, after_frame, area_after, is_complete}
+use Rattle.labelling.specs.Machine.{FrameEvent, extends, completes, starts, stands-alone, interrupts, good_event, after_frame, area_after, is_complete}
 use Rattle.labelling.specs.MajorFrames.{put_bytes}
 use Rattle.layer_steps.specs.declared.major.Ended.{Ended}
 use Rattle.layer_steps.specs.Shapes.{Counted, EndPromise}
@@ -73,3 +75,11 @@ module _ (r : Runs) (bytes old new : List ℕ) (n : ℕ) (number : n ≡ get_or 
   pub end_stored : apart n r.building ≡ false → new ≡ paste old (minor_frame * n) bytes minor_frame → EndPromise r Good bytes old new e
   unfolding put_bytes
   end_stored t h = ended false t (h ∙ ap (λ (k : ℕ). paste old (minor_frame * k) bytes minor_frame) number)
+
+-- ---- any other frame
+
+-- it ends the run, and the area stays
+pub ends_run : {r : Runs} {bytes area : List ℕ} {e : Ended} (k : FrameClass) → (k ≡ Damaged) ⊎ (k ≡ Unsynced) → Counted interrupts r e
+    → EndPromise r k bytes area area e
+ends_run k (inl h) c = rw h (record { counted = c; area_is = refl })
+ends_run k (inr h) c = rw h (record { counted = c; area_is = refl })

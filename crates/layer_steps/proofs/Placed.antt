@@ -8,7 +8,7 @@ use Rattle.labelling.specs.declared.FrameClass.{FrameClass}
 use Rattle.labelling.specs.declared.Framing.{Framing}
 use Rattle.labelling.specs.declared.Word.{Word}
 use Rattle.labelling.specs.Machine.{closes_frame, synced_bytes, bytes_class, filled, marked, word_event, after_closing_frame}
-use Rattle.layer_steps.specs.declared.minor.Closing.TheVariants.{Nothing, Frame}
+use Rattle.std.proofs.Common.{Some, None}
 use Rattle.layer_steps.specs.Shapes.{PlacePromise}
 
 -- one place more is filled, and e tells of an erasure
@@ -31,7 +31,7 @@ pub record Storing (f : Framing) (w : Word) (old new : List ℕ) (e : Bool) : Ty
   pub mark : e ≡ marked f w
 
 module _ {f : Framing} {w : Word} {old new : List ℕ} {e : Bool} (s : Storing f w old new e) where
-  pub placed-more : f.placed < 127 → PlacePromise f w old new (record { framing = one_more f e; closing = Nothing })
+  pub placed-more : f.placed < 127 → PlacePromise f w old new (record { framing = one_more f e; closed = None })
   unfolding word_event
   placed-more h =
       let room = lt-ltb f.placed 127 h in
@@ -45,7 +45,7 @@ module _ {f : Framing} {w : Word} {old new : List ℕ} {e : Bool} (s : Storing f
   last_event h = rw (s.placing, le-ltb f.placed 127 h)
 
   pub placed-last : {k : FrameClass} {g : Framing} → 127 ≤ f.placed → k ≡ bytes_class (synced_bytes new) e → g ≡ after_closing_frame k f
-      → PlacePromise f w old new (record { framing = g; closing = Frame k })
+      → PlacePromise f w old new (record { framing = g; closed = Some k })
   placed-last {k} h class after =
       let class_is : k ≡ last_class = class ∙ rw (s.stored, s.mark) in
       record {

@@ -1,5 +1,5 @@
 -- The structs of the layers' steps in the terms of the labelling, and what the steps promise. Definitions only.
-use Rattle.std.specs.Prelude.{◌≡◌, List, ℕ, length}
+use Rattle.std.specs.Prelude.{◌≡◌, List, ℕ, length, Option, Some, None}
 use Rattle.base.specs.Format.{minor_frame, major_frame}
 use Rattle.labelling.specs.declared.FrameClass.{FrameClass}
 use Rattle.labelling.specs.declared.Framing.{Framing}
@@ -8,19 +8,17 @@ use Rattle.labelling.specs.declared.Word.{Word}
 use Rattle.labelling.specs.Machine.{WordEvent, fills, closes_frame, word_event, after_word, filled}
 use Rattle.labelling.specs.Machine.{FrameEvent, closed_event, after_frame, area_after, is_complete}
 use Rattle.layer_steps.specs.declared.major.Ended.{Ended}
-use Rattle.layer_steps.specs.declared.minor.Closing.{Closing}
-use Rattle.layer_steps.specs.declared.minor.Closing.TheVariants.{Nothing, Frame}
 use Rattle.layer_steps.specs.declared.minor.Framed.{Framed}
 
 -- ---- a word that is placed
 
-abbrev pub event_of : Closing → WordEvent
-event_of Nothing = fills
-event_of (Frame k) = closes_frame k
+abbrev pub event_of : Option FrameClass → WordEvent
+event_of None = fills
+event_of (Some k) = closes_frame k
 
 -- the word w goes to the next place: the frame is old before it and new afterwards
 pub record PlacePromise (f : Framing) (w : Word) (old new : List ℕ) (r : Framed) : Type 0 where
-  pub event_is : event_of r.closing ≡ word_event f old w
+  pub event_is : event_of r.closed ≡ word_event f old w
   pub framing_is : r.framing ≡ after_word (word_event f old w) f w
   pub frame_is : new ≡ filled f old w
 

@@ -2,7 +2,6 @@
 ghost use Rattle.std.specs.Prelude.{◌≡◌, ◌≤◌, ◌<◌, ◌^◌};
 ghost use Rattle.labelling.specs.Words.{outside, Vote};
 ghost use Rattle.labelling.specs.Machine.{outer, weaker, after_closing, after_byte, byte_event};
-ghost use Rattle.base.specs.Lists.{one};
 ghost use Rattle.order.specs.Room.{GroupsRoom};
 
 use base::format::{FILL, SYNC};
@@ -55,19 +54,10 @@ fn weaken(w: Weak, n: u8) -> Weak
     ensures { result ≡ weaker n w }
 {
     Weak {
-        first: w.first + counted(n == 1),
-        second: w.second + counted(n == 2),
-        third: w.third + counted(n == 3),
+        first: w.first + u64::from(n == 1),
+        second: w.second + u64::from(n == 2),
+        third: w.third + u64::from(n == 3),
     }
-}
-
-fn counted(b: bool) -> u64
-    ensures { (result ≡ one b) × (result ≤ 1) }
-{
-    if b {
-        return 1;
-    }
-    0
 }
 
 // The third copy: the group closes, and has given w; n is its weak copy.

@@ -7,13 +7,12 @@ ghost use Rattle.order.specs.Room.{RunsRoom};
 ghost use Rattle.layer_steps.specs.Shapes.{Lent, Counted, EndPromise};
 
 use base::format::{MAJOR_FRAME, MINOR_FRAME, NUMBER_PLACE};
-use base::wide;
 use labelling::{FrameClass, Runs};
 
 // The number of the minor frame that completes a major frame.
 const LAST_NUMBER: u64 = (MAJOR_FRAME / MINOR_FRAME) as u64 - 1;
 
-#[derive(Clone, Copy)]
+#[derive(Clone, Copy, Debug, PartialEq, Eq)]
 pub struct Ended {
     pub runs: Runs,
     pub complete: bool,
@@ -24,11 +23,7 @@ fn put(area: &mut [u8], at: usize, frame: &[u8; 128])
     requires { (at + minor_frame ≤ length area.old) × (length frame.now ≡ minor_frame) }
     ensures { area.new ≡ paste area.old at frame.now minor_frame }
 {
-    let mut i: usize = 0;
-    while i < MINOR_FRAME {
-        area[at + i] = frame[i];
-        i += 1;
-    }
+    area[at..at + MINOR_FRAME].copy_from_slice(frame);
 }
 
 // The counts after a good frame numbered n: it continues the run, starts one, or stands alone.
@@ -88,7 +83,7 @@ fn end_good(r: Runs, frame: &[u8; 128], area: &mut [u8]) -> Ended
     requires lent { Lent frame.now area.old }
     ensures { EndPromise r FrameClass.Good frame.now area.old area.new result }
 {
-    let n = wide(frame[NUMBER_PLACE]);
+    let n = u64::from(frame[NUMBER_PLACE]);
     if (n != r.building) & (n != 0) {
         return after_good(r, n);
     }
@@ -104,7 +99,6 @@ pub fn end_frame(r: Runs, class: FrameClass, frame: &[u8; 128], area: &mut [u8])
 {
     match class {
         FrameClass::Good => end_good(r, frame, area),
-        FrameClass::Damaged => after_other(r),
-        FrameClass::Unsynced => after_other(r),
+        FrameClass::Damaged | FrameClass::Unsynced => after_other(r),
     }
 }

@@ -11,17 +11,11 @@ use labelling::{FrameClass, Framing, Word};
 
 const LAST_PLACE: usize = MINOR_FRAME - 1;
 
-// What the last word closed.
-#[derive(Clone, Copy)]
-pub enum Closing {
-    Nothing,
-    Frame(FrameClass),
-}
-
-#[derive(Clone, Copy)]
+#[derive(Clone, Copy, Debug, PartialEq, Eq)]
 pub struct Framed {
     pub framing: Framing,
-    pub closing: Closing,
+    // The class of the frame that the word closed.
+    pub closed: Option<FrameClass>,
 }
 
 fn is_word(n: u8, w: Word) -> bool
@@ -55,13 +49,11 @@ fn value(w: Word) -> u8
 fn sync_word(m: u64) -> u8
     ensures { result ≡ sync_word m }
 {
-    if m == 0 {
-        return SYNC_WORD_0;
+    match m {
+        0 => SYNC_WORD_0,
+        1 => SYNC_WORD_1,
+        _ => SYNC_WORD_2,
     }
-    if m == 1 {
-        return SYNC_WORD_1;
-    }
-    SYNC_WORD_2
 }
 
 // A word that is met while hunting.
@@ -149,12 +141,12 @@ pub fn place(f: Framing, w: Word, frame: &mut [u8; 128]) -> Framed
         next.erasure = erasure;
         return Framed {
             framing: next,
-            closing: Closing::Nothing,
+            closed: None,
         };
     }
     let class = class_of(frame, erasure);
     Framed {
         framing: close_frame(f, class),
-        closing: Closing::Frame(class),
+        closed: Some(class),
     }
 }

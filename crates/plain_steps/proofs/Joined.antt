@@ -21,7 +21,7 @@ use Rattle.labelling.specs.Machine.{FrameEvent, nothing, closed_event, frame_eve
 use Rattle.votes.specs.declared.Voted.{Voted}
 use Rattle.votes.specs.Promise.{VotePromise}
 use Rattle.layer_steps.specs.declared.major.Ended.{Ended}
-use Rattle.layer_steps.specs.declared.minor.Closing.TheVariants.{Nothing, Frame}
+use Rattle.std.proofs.Common.{Some, None}
 use Rattle.layer_steps.specs.declared.minor.Framed.{Framed}
 use Rattle.layer_steps.specs.Shapes.{event_of, PlacePromise, EndPromise}
 use Rattle.plain_steps.specs.declared.layers.Layers.{Layers}
@@ -69,17 +69,17 @@ module _ (l : Layers) (w : Word) (frame area : List ℕ) where
 
   -- a word that is placed
   module _ {new : List ℕ} {r : Framed} (placing : l.framing.hunting ≡ false) (p : PlacePromise l.framing w frame new r) where
-    placed-as : (v : WordEvent) → event_of r.closing ≡ v → (k : FrameEvent) → frame_event v new l.runs.building ≡ k
+    placed-as : (v : WordEvent) → event_of r.closed ≡ v → (k : FrameEvent) → frame_event v new l.runs.building ≡ k
         → now_of (record { layers = layers_with l r.framing (after_frame k l.runs); complete = is_complete k }) new (area_after k new area) ≡ stepped
     placed-as v e k ek =
         let event : word_event l.framing frame w ≡ v = sym p.event_is ∙ e in
         let framed : r.framing ≡ after_word v l.framing w = p.framing_is ∙ ap (λ (x : WordEvent). after_word x l.framing w) event in
         rw framed (word-as v new k event (rw placing (sym p.frame_is)) ek)
 
-    pub word-filled : r.closing ≡ Nothing → now_of (record { layers = layers_with l r.framing l.runs; complete = false }) new area ≡ stepped
+    pub word-filled : r.closed ≡ None → now_of (record { layers = layers_with l r.framing l.runs; complete = false }) new area ≡ stepped
     word-filled e = placed-as fills (ap event_of e) nothing refl
 
-    pub word-closed : {k : FrameClass} {area' : List ℕ} {x : Ended} → r.closing ≡ Frame k → EndPromise l.runs k new area area' x
+    pub word-closed : {k : FrameClass} {area' : List ℕ} {x : Ended} → r.closed ≡ Some k → EndPromise l.runs k new area area' x
         → now_of (record { layers = layers_with l r.framing x.runs; complete = x.complete }) new area' ≡ stepped
     word-closed {k} e q =
         rw (q.counted.runs_is, q.counted.complete_is, q.area_is) (placed-as (closes_frame k) (ap event_of e) (closed_event k new l.runs.building) refl)

@@ -9,18 +9,17 @@ ghost use Rattle.layer_steps.specs.Shapes.{Lent};
 ghost use Rattle.plain_steps.specs.Shapes.{state_with, now_of};
 
 use labelling::{Framing, Groups, Runs, Word};
-use layer_steps::minor::Closing;
 use layer_steps::{groups, major, minor};
 
 // A state without its frame, which is lent beside it: so a byte copies counts and no frame.
-#[derive(Clone, Copy)]
+#[derive(Clone, Copy, Debug, PartialEq, Eq)]
 pub struct Layers {
     pub groups: Groups,
     pub framing: Framing,
     pub runs: Runs,
 }
 
-#[derive(Clone, Copy)]
+#[derive(Clone, Copy, Debug, PartialEq, Eq)]
 pub struct Stepped {
     pub layers: Layers,
     // Whether a major frame is complete; the area holds it.
@@ -42,18 +41,15 @@ fn word_step(l: Layers, w: Word, frame: &mut [u8; 128], area: &mut [u8]) -> Step
         };
     }
     let framed = minor::place(l.framing, w, frame);
-    let f = framed.framing;
-    next.framing = f;
-    let closing = framed.closing;
-    match closing {
-        Closing::Nothing => Stepped {
+    next.framing = framed.framing;
+    match framed.closed {
+        None => Stepped {
             layers: next,
             complete: false,
         },
-        Closing::Frame(class) => {
+        Some(class) => {
             let ended = major::end_frame(l.runs, class, frame, area);
-            let r = ended.runs;
-            next.runs = r;
+            next.runs = ended.runs;
             Stepped {
                 layers: next,
                 complete: ended.complete,

@@ -35,7 +35,7 @@ pub(crate) fn begun() -> Tally {
 // The call of this number, with the room of the area, the operator or the rule; none for any other number.
 pub(crate) fn answered(call: u64, t: Tally, value: u64, piece: &[u8]) -> Answer {
     if call == TAKE {
-        return taken(t, crate::shorter(value as usize, MOST_ROOM), piece);
+        return taken(t, (value as usize).min(MOST_ROOM), piece);
     }
     if call == CHANGE {
         let a = reader::change_duty(t, value);

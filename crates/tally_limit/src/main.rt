@@ -11,8 +11,6 @@ mod call;
 mod show;
 mod tally;
 
-ghost use Rattle.std.specs.Prelude.{◌≤◌};
-
 use labelling::Tally;
 use std::io;
 use std::io::Input;
@@ -22,54 +20,28 @@ const MOST_LINE: usize = 160;
 
 const MOST_PIECE: usize = 16;
 
-// Whether there was a record, and the tally that is kept.
-#[derive(Clone, Copy)]
-struct Turned {
-    more: bool,
-    tally: Tally,
-}
-
 fn main(rt: HostRuntime) -> io::Result<()> {
     let mut kept = call::begun();
-    let mut left = vectors::MOST_RECORDS;
-    while left > 0 {
-        let turned = turn(&rt, kept)?;
-        if !turned.more {
-            return Ok(());
+    for _ in 0..vectors::MOST_RECORDS {
+        match turn(&rt, kept)? {
+            Some(tally) => kept = tally,
+            None => return Ok(()),
         }
-        kept = turned.tally;
-        left -= 1;
     }
     Ok(())
 }
 
-// Reads a record and makes its call; no more at the end of the input.
-fn turn(rt: &(impl Input + Print), kept: Tally) -> io::Result<Turned> {
+// Reads a record and makes its call; the answer is the tally that is kept, and none at the end of the input.
+fn turn(rt: &(impl Input + Print), kept: Tally) -> io::Result<Option<Tally>> {
     let mut numbers = [0u64; 39];
     let mut frame = [0u8; 128];
     let mut texts = [0u8; 192];
     if !(filled_numbers(rt, &mut numbers) & filled(rt, &mut frame) & filled(rt, &mut texts)) {
-        return Ok(Turned {
-            more: false,
-            tally: kept,
-        });
+        return Ok(None);
     }
-    made(rt, numbers, frame, &texts, kept)
-}
-
-fn made(
-    rt: &impl Print,
-    numbers: [u64; 39],
-    frame: [u8; 128],
-    texts: &[u8],
-    kept: Tally,
-) -> io::Result<Turned> {
     let t = chosen(numbers[2] == 1, tally::of(numbers, frame), kept);
-    let back = run(rt, numbers, texts, t)?;
-    Ok(Turned {
-        more: true,
-        tally: chosen(numbers[1] == 1, back, kept),
-    })
+    let back = run(rt, numbers, &texts, t)?;
+    Ok(Some(chosen(numbers[1] == 1, back, kept)))
 }
 
 fn chosen(first: bool, a: Tally, b: Tally) -> Tally {
@@ -84,21 +56,12 @@ fn run(rt: &impl Print, numbers: [u64; 39], texts: &[u8], t: Tally) -> io::Resul
     if texts.len() < 192 {
         return Ok(t);
     }
-    let line_end = 16 + shorter(numbers[3] as usize, MOST_LINE);
-    let piece_end = 176 + shorter(numbers[4] as usize, MOST_PIECE);
+    let line_end = 16 + (numbers[3] as usize).min(MOST_LINE);
+    let piece_end = 176 + (numbers[4] as usize).min(MOST_PIECE);
     let picks = &texts[0..16];
     let line = &texts[16..line_end];
     let piece = &texts[176..piece_end];
     let answer = call::answered(numbers[0], t, numbers[5], piece);
     show::line(rt, line, picks, t, answer)?;
     Ok(answer.tally)
-}
-
-fn shorter(n: usize, most: usize) -> usize
-    ensures { result ≤ most }
-{
-    if n < most {
-        return n;
-    }
-    most
 }

@@ -1,10 +1,7 @@
 // The line about a call. Its numbers: 0 the refusal, 1 the bytes taken, 2 whether a major frame is complete, 3 how many bytes of the area the call
 // changed, 4 whether the tally that comes back is the one that went in, 5 whether it is but for who is on duty; from 6 on those of the tally that comes back.
-ghost use Rattle.std.specs.Prelude.{◌≡◌, length};
-
 use crate::call::Answer;
 use crate::tally::numbers;
-use base::wide;
 use labelling::Tally;
 use std::io;
 use vectors::{bit, fields};
@@ -15,9 +12,7 @@ pub(crate) fn line(
     picks: &[u8],
     t: Tally,
     a: Answer,
-) -> io::Result<()>
-    requires { length picks.now ≡ 16 }
-{
+) -> io::Result<()> {
     let u = a.tally;
     let after = numbers(u);
     let called = [
@@ -25,8 +20,8 @@ pub(crate) fn line(
         a.taken,
         a.complete,
         a.changed,
-        bit(is_same(t, u)),
-        bit(is_same(t, with_duty(u, t.operators.duty))),
+        bit(t == u),
+        bit(t == with_duty(u, t.operators.duty)),
     ];
     let mut shown = [0u64; 16];
     pick(picks, &called, &after, &mut shown);
@@ -40,55 +35,16 @@ fn with_duty(t: Tally, duty: u64) -> Tally {
     r
 }
 
-fn is_same(t: Tally, u: Tally) -> bool {
-    let a = t.frame;
-    let b = u.frame;
-    same_frame(&a, &b) & same_numbers(t, u)
-}
-
-fn same_frame(a: &[u8; 128], b: &[u8; 128]) -> bool {
-    vectors::differing(a, b) == 0
-}
-
-fn same_numbers(t: Tally, u: Tally) -> bool {
-    let a = numbers(t);
-    let b = numbers(u);
-    alike(&a, &b)
-}
-
-fn alike(a: &[u64], b: &[u64]) -> bool {
-    let mut i: usize = 0;
-    while i < a.len() {
-        if element(a, i) != element(b, i) {
-            return false;
-        }
-        i += 1;
-    }
-    true
-}
-
-fn pick(picks: &[u8], called: &[u64], left: &[u64], shown: &mut [u64])
-    requires { length picks.now ≡ length shown.old }
-{
-    let mut i: usize = 0;
-    while i < picks.len() {
-        shown[i] = picked(picks[i], called, left);
-        i += 1;
+fn pick(picks: &[u8], called: &[u64], left: &[u64], shown: &mut [u64]) {
+    for (shown, &number) in shown.iter_mut().zip(picks) {
+        *shown = picked(number, called, left);
     }
 }
 
 fn picked(number: u8, called: &[u64], left: &[u64]) -> u64 {
-    let k = wide(number) as usize;
+    let k = number as usize;
     if k < called.len() {
         return called[k];
     }
-    element(left, k - called.len())
-}
-
-// An element, 0 past the end.
-fn element(list: &[u64], i: usize) -> u64 {
-    if i < list.len() {
-        return list[i];
-    }
-    0
+    *left.get(k - called.len()).unwrap_or(&0)
 }

@@ -1,5 +1,4 @@
 // The tally of a record, whose numbers are those from 6 on; and the numbers of a tally.
-use base::wide;
 use labelling::{Framing, Groups, Operators, Runs, Tally, Weak};
 use vectors::bit;
 
@@ -80,8 +79,8 @@ pub(crate) fn numbers(t: Tally) -> [u64; 33] {
         t.groups.weak.second,
         t.groups.weak.third,
         t.groups.open,
-        wide(t.groups.first),
-        wide(t.groups.second),
+        u64::from(t.groups.first),
+        u64::from(t.groups.second),
         t.framing.hunted,
         t.framing.good,
         t.framing.damaged,

@@ -5,7 +5,6 @@ ghost use Rattle.std.specs.Prelude.{◌≡◌};
 ghost use Rattle.base.specs.Lists.{one};
 ghost use Rattle.tally_numbers.specs.Numbers.{is_tally, groups_of, framing_of, runs_of, operators_of, tally_of, counts_only, numbers_of};
 
-use base::wide;
 use labelling::{Framing, Groups, Operators, Runs, Tally, Weak};
 
 // How many numbers a tally has.
@@ -54,8 +53,8 @@ pub fn put_tally(t: Tally, n: &mut [u64; NUMBERS], frame: &mut [u8; 128])
 pub fn put_counts(g: Groups, f: Framing, r: Runs, o: Operators, rule: u64, n: &mut [u64; NUMBERS])
     ensures { n.new ≡ numbers_of (counts_only g f r o rule) }
 {
-    let first = wide(g.first);
-    let second = wide(g.second);
+    let first = u64::from(g.first);
+    let second = u64::from(g.second);
     let hunting = flag(f.hunting);
     let erasure = flag(f.erasure);
     let p = o.paid;

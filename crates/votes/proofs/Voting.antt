@@ -4,7 +4,7 @@ use mathlib.Core.Bool.{Bool, true, false, cond, not, ◌&&◌, ◌||◌, true≢
 use Prim.Native.Nat.{ℕ, ◌+◌, ◌*◌, ◌≤◌}
 use native.Mathlib.Omega.{arith}
 use lib.Dec.{eqb}
-use Rattle.base.specs.Lists.{one}
+use Rattle.std.specs.Int.{from_bool}
 use Rattle.labelling.specs.declared.Word.TheVariants.{Voted, Erased}
 use Rattle.labelling.specs.Words.{byte_vote}
 use Rattle.labelling.specs.Votes.{bit_vote, rule_vote}
@@ -12,7 +12,7 @@ use Rattle.labelling.proofs.Votes.{majority, same_word}
 use Rattle.votes.specs.Promise.{weak_from}
 
 -- the number of the weak copy, added up
-pub numbered : (ab ac bc : Bool) → 3 * one (ab && not ac) + 2 * one (not ab && ac) + one (not ab && not ac && bc) ≡ weak_from ab ac bc
+pub numbered : (ab ac bc : Bool) → 3 * from_bool (ab && not ac) + 2 * from_bool (not ab && ac) + from_bool (not ab && not ac && bc) ≡ weak_from ab ac bc
 numbered true true bc = refl
 numbered true false bc = refl
 numbered false true bc = refl
@@ -27,14 +27,18 @@ numbered-few false true bc = omega arith
 numbered-few false false true = omega arith
 numbered-few false false false = omega arith
 
+pub flag-few : (b : Bool) → from_bool b ≤ 1
+flag-few true = omega arith
+flag-few false = omega arith
+
 -- two copies are equal exactly where one is weak or the first two are equal
-pub any_equal : (ab ac bc : Bool) → (weak_from ab ac bc + one ab ≡ 0 → ⊥) → (ab || ac || bc) ≡ true
+pub any_equal : (ab ac bc : Bool) → (weak_from ab ac bc + from_bool ab ≡ 0 → ⊥) → (ab || ac || bc) ≡ true
 any_equal true ac bc h = refl
 any_equal false true bc h = refl
 any_equal false false true h = refl
 any_equal false false false h = absurd (h refl)
 
-pub none_equal : (ab ac bc : Bool) → weak_from ab ac bc + one ab ≡ 0 → (ab || ac || bc) ≡ false
+pub none_equal : (ab ac bc : Bool) → weak_from ab ac bc + from_bool ab ≡ 0 → (ab || ac || bc) ≡ false
 none_equal true true bc h = absurd (omega arith)
 none_equal true false bc h = absurd (omega arith)
 none_equal false true bc h = absurd (omega arith)

@@ -1,8 +1,7 @@
 // The two votes on the three copies of a group, and the copy that they find weak.
 #![tactic(auto)]
 
-ghost use Rattle.std.specs.Prelude.{◌≡◌, ◌≤◌};
-ghost use Rattle.base.specs.Lists.{one};
+ghost use Rattle.std.specs.Prelude.{◌≡◌};
 ghost use Rattle.labelling.specs.Words.{byte_vote};
 ghost use Rattle.labelling.specs.Votes.{rule_vote};
 ghost use Rattle.votes.specs.Promise.{weak_from, VotePromise, BitVotePromise};
@@ -12,7 +11,7 @@ use labelling::Word;
 // The rule of the second agreement.
 const BY_BITS: u64 = 2;
 
-#[derive(Clone, Copy)]
+#[derive(Clone, Copy, Debug, PartialEq, Eq)]
 pub struct Voted {
     pub word: Word,
     // The copy that disagrees with the two others: 1, 2 or 3, and 0 for none.
@@ -23,10 +22,9 @@ pub struct Voted {
 pub fn vote_bits(a: u8, b: u8, c: u8) -> Voted
     ensures { BitVotePromise a b c result }
 {
-    let weak = weak_number(a == b, a == c, b == c);
     Voted {
         word: Word::Voted((a & b) | (a & c) | (b & c)),
-        weak: weak,
+        weak: weak_number(a == b, a == c, b == c),
     }
 }
 
@@ -36,7 +34,7 @@ pub fn vote(a: u8, b: u8, c: u8) -> Voted
     ensures { VotePromise byte_vote a b c result }
 {
     let by_bits = vote_bits(a, b, c);
-    if by_bits.weak + bit(a == b) != 0 {
+    if by_bits.weak + u8::from(a == b) != 0 {
         return by_bits;
     }
     Voted {
@@ -59,14 +57,5 @@ pub fn vote_by(rule: u64, a: u8, b: u8, c: u8) -> Voted
 fn weak_number(ab: bool, ac: bool, bc: bool) -> u8
     ensures { result ≡ weak_from ab ac bc }
 {
-    3 * bit(ab & !ac) + 2 * bit(!ab & ac) + bit(!ab & !ac & bc)
-}
-
-fn bit(b: bool) -> u8
-    ensures { (result ≡ one b) × (result ≤ 1) }
-{
-    if b {
-        return 1;
-    }
-    0
+    3 * u8::from(ab & !ac) + 2 * u8::from(!ab & ac) + u8::from(!ab & !ac & bc)
 }

@@ -14,5 +14,5 @@ eight s = search rules
 pub returns : goal.returns
 returns c =
     let a = c.args in
-    written_out (counts_only a.g a.f a.r a.o a.rule) c.wide-first.ensures c.wide-second.ensures c.flag-hunting.ensures
+    written_out (counts_only a.g a.f a.r a.o a.rule) c.from-first.ensures c.from-second.ensures c.flag-hunting.ensures
     c.flag-erasure.ensures (eight (goal.at.returns c).Start)

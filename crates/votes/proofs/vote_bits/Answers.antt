@@ -10,9 +10,9 @@ unfolding weak_copy
 returns c =
     let a = c.args in
     record {
-      answer_is = record { word-is = masks_vote a.a a.b a.c; weak_is = c.weak_number-weak.ensures };
+      answer_is = record { word-is = masks_vote a.a a.b a.c; weak_is = c.weak_number.ensures };
       value = by_masks a.a a.b a.c;
       always_a_word = refl;
       by_bits = masks_voted a.a a.b a.c;
-      none-weak = λ ab ac bc. c.weak_number-weak.ensures ∙ rw (ne_eqb _ _ ab, ne_eqb _ _ ac, ne_eqb _ _ bc);
+      none-weak = λ ab ac bc. c.weak_number.ensures ∙ rw (ne_eqb _ _ ab, ne_eqb _ _ ac, ne_eqb _ _ bc);
     }

@@ -5,4 +5,4 @@ use Rattle.votes.proofs.weak_number.Goals as goal
 pub returns : goal.returns
 returns c =
     let a = c.args in
-    rw (c.bit-3.ensures.0, c.bit-2.ensures.0, c.bit.ensures.0) (numbered a.ab a.ac a.bc)
+    rw (c.from-3.ensures, c.from-2.ensures, c.from.ensures) (numbered a.ab a.ac a.bc)

@@ -2,4 +2,4 @@
 use Rattle.layer_steps.proofs.groups.weaken.Goals as goal
 
 pub returns : goal.returns
-returns c = rw (c.counted-3.ensures.0, c.counted-2.ensures.0, c.counted.ensures.0)
+returns c = rw (c.from-3.ensures, c.from-2.ensures, c.from.ensures)

@@ -7,14 +7,14 @@ use Rattle.layer_steps.proofs.major.end_good.Goals as goal
 use Rattle.layer_steps.proofs.major.end_good.Goals.{Else-n-r}
 
 -- a frame of a run has one of its numbers
-few : (c : Else-n-r) → c.wide-n.result ≤ 127
+few : (c : Else-n-r) → c.from-n.result ≤ 127
 few c =
-    numbered c.wide-n.result c.args.r.building c.if-n-r.false c.requires.runs_room.building_max
+    numbered c.from-n.result c.args.r.building c.if-n-r.false c.requires.runs_room.building_max
 
 pub returns-then-n-r : goal.returns-then-n-r
 returns-then-n-r c =
     let a = c.args in
-    end_apart a.r a.frame.now a.area.now _ c.wide-n.result c.wide-n.ensures c.after_good.ensures c.if-n-r.true refl
+    end_apart a.r a.frame.now a.area.now _ c.from-n.result c.from-n.ensures c.after_good.ensures c.if-n-r.true refl
 
 pub overflow_mul-n : goal.overflow_mul-n
 overflow_mul-n c = omega (arith, few (goal.at.overflow_mul-n c).Else-n-r)
@@ -27,5 +27,5 @@ put-requires c =
 pub returns : goal.returns
 returns c =
     let a = c.args in
-    end_stored a.r a.frame.now a.area.now _ c.wide-n.result c.wide-n.ensures c.after_good-2.ensures c.if-n-r.false
+    end_stored a.r a.frame.now a.area.now _ c.from-n.result c.from-n.ensures c.after_good-2.ensures c.if-n-r.false
     c.put.ensures

@@ -17,13 +17,13 @@ end_frame-ended-requires c = record {
   };
 }
 
-pub returns-in-Nothing : goal.returns-in-Nothing
-returns-in-Nothing c =
+pub returns-in-None : goal.returns-in-None
+returns-in-None c =
     let a = c.args in
-    word-filled a.l a.w a.frame.now a.area.now c.if-l.false c.place-framed.ensures c.in-Nothing.is
+    word-filled a.l a.w a.frame.now a.area.now c.if-l.false c.place-framed.ensures c.in-None.is
 
-pub returns-in-Frame : goal.returns-in-Frame
-returns-in-Frame c =
+pub returns-in-Some : goal.returns-in-Some
+returns-in-Some c =
     let a = c.args in
-    word-closed a.l a.w a.frame.now a.area.now c.if-l.false c.place-framed.ensures c.in-Frame.is
+    word-closed a.l a.w a.frame.now a.area.now c.if-l.false c.place-framed.ensures c.in-Some.is
     c.end_frame-ended.ensures
