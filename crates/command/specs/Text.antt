@@ -3,6 +3,7 @@ use Rattle.std.specs.Prelude.{◌≡◌, List, [], ◌∷◌, ◌++◌, ℕ, suc
 use Prim.Native.Char.{code}
 use Prim.Native.String.{String, [], ◌∷◌}
 use Rattle.base.specs.Ranges.{lowest}
+use Rattle.command.specs.declared.text.Text.{Text}
 use Rattle.io.specs.Counts.{IsPrefixLen}
 use Rattle.io.specs.Digits.{last_digits}
 
@@ -16,6 +17,11 @@ pub record Adds (old : List ℕ) (at : ℕ) (bytes new : List ℕ) (end : ℕ) :
   pub text_is : take end new ≡ take (length old) (take at old ++ bytes)
   pub size_is : length new ≡ length old
   pub counts : IsPrefixLen end new
+
+-- a text that keeps its place goes on with these bytes, in the same buffer
+pub record Grows (old : Text) (bytes : List ℕ) (new : Text) : Type 0 where
+  pub adds : Adds old.room.now old.length bytes new.room.now new.length
+  pub same_reference : new.room.ghost_name ≡ old.room.ghost_name
 
 -- how many decimal digits a number of 64 bits has: the lowest number of digits that hold it, 1 at least
 abbrev pub places : ℕ → ℕ

@@ -23,7 +23,7 @@ pub enum Room {
 }
 
 // A book whose header is read.
-#[derive(Clone, Copy)]
+#[derive(Clone, Copy, Debug, PartialEq, Eq)]
 pub struct Begun {
     pub room: Room,
     // How much of the header there is.

@@ -4,7 +4,7 @@ use crate::arguments::argument;
 use crate::files::fill;
 use crate::lines::line;
 use crate::saying::ErrorOutput;
-use crate::text::{put, put_number};
+use crate::text::Text;
 use std::fmt::InlineText;
 use std::fs::{File, OpenOptions};
 use std::io;
@@ -18,15 +18,12 @@ pub fn end<R: Env + Files + Print + ErrorOutput>(rt: &R, status: u64) {
     let n = argument(rt, 1, &mut word);
     if n == 1 {
         let mut space = [0u8; LINE];
-        end_in(rt, &mut space, word[0], status);
+        let mut line = Text::new(&mut space);
+        line.put_number(status);
+        line.put(b"\n");
+        // A program whose status cannot be written has no other way to tell it.
+        let _ = tell(rt, word[0], line.bytes());
     }
-}
-
-fn end_in<R: Files + Print + ErrorOutput>(rt: &R, line: &mut [u8], named: u8, status: u64) {
-    let a = put_number(&mut *line, 0, status);
-    let b = put(&mut *line, a, b"\n");
-    // A program whose status cannot be written has no other way to tell it.
-    let _ = tell(rt, named, &line[..b]);
 }
 
 // Writes the line on the descriptor that a digit names; on standard error for another byte.

@@ -1,8 +1,6 @@
 // What a program says: lines on standard error, each after the program's name, and data on standard output.
-ghost use Rattle.io.specs.Counts.{IsPrefixLen};
-
-use crate::text::{put, put_field};
-use crate::words::put_meaning;
+use crate::text::Text;
+use crate::words::words;
 use std::fmt::InlineText;
 use std::io;
 use std::io::IsTerminal;
@@ -32,15 +30,14 @@ impl ErrorOutput for HostRuntime {
 // The line `PROGRAM: WHAT: WORDS`.
 pub fn say(rt: &impl ErrorOutput, program: &[u8], what: &[u8], words: &[u8]) {
     let mut space = [0u8; LINE];
-    say_in(rt, &mut space, program, what, words);
-}
-
-fn say_in(rt: &impl ErrorOutput, line: &mut [u8], program: &[u8], what: &[u8], words: &[u8]) {
-    let a = put_name(&mut *line, program, what);
-    let b = put(&mut *line, a, b": ");
-    let c = put(&mut *line, b, words);
-    let d = put(&mut *line, c, b"\n");
-    write_error(rt, &line[..d]);
+    let mut line = Text::new(&mut space);
+    line.put(program);
+    line.put(b": ");
+    line.put(what);
+    line.put(b": ");
+    line.put(words);
+    line.put(b"\n");
+    write_error(rt, line.bytes());
 }
 
 // Writes to standard error. Where it cannot be written, there is nothing left to say so on.
@@ -65,13 +62,12 @@ fn words_of(text: &str) -> &str {
 // The line `PROGRAM: WHAT: refusal N: ` and what the number means.
 pub fn refuse(rt: &impl ErrorOutput, program: &[u8], what: &[u8], number: u8) {
     let mut space = [0u8; WORDS];
-    refuse_in(rt, &mut space, program, what, number);
-}
-
-fn refuse_in(rt: &impl ErrorOutput, words: &mut [u8], program: &[u8], what: &[u8], number: u8) {
-    let refused = put_field(&mut *words, 0, b"refusal ", number as u64);
-    let told = put_meaning(&mut *words, refused, number);
-    say(rt, program, what, &words[..told]);
+    let mut told = Text::new(&mut space);
+    told.put(b"refusal ");
+    told.put_number(u64::from(number));
+    told.put(b": ");
+    told.put(words(number));
+    say(rt, program, what, told.bytes());
 }
 
 // Writes data; where it cannot be written, a line says so, and the answer is false.
@@ -83,12 +79,4 @@ pub fn show(rt: &(impl Print + ErrorOutput), program: &[u8], data: &[u8]) -> boo
             false
         }
     }
-}
-
-fn put_name(line: &mut [u8], program: &[u8], what: &[u8]) -> usize
-    ensures { IsPrefixLen result line.new }
-{
-    let a = put(&mut *line, 0, program);
-    let b = put(&mut *line, a, b": ");
-    put(line, b, what)
 }

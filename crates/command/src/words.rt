@@ -1,4 +1,5 @@
 // The refusal numbers in words, a line for each from 0 on; `base` has them by name.
+ghost use Rattle.std.specs.Prelude.{◌≡◌};
 ghost use Rattle.command.specs.Text.{Adds};
 ghost use Rattle.command.specs.Words.{refusal_words, meaning};
 
@@ -38,11 +39,17 @@ the frames to go on are more than 2^24 - 1
 ";
 
 // What a refusal number means; nothing for a number that is none.
+pub(crate) fn words(number: u8) -> &'static [u8]
+    ensures { result.now ≡ refusal_words number }
+{
+    lines::line(&WORDS, usize::from(number))
+}
+
+// Puts what a refusal number means.
 pub fn put_words(out: &mut [u8], at: usize, number: u8) -> usize
     ensures { Adds out.old at (refusal_words number) out.new result }
 {
-    let table = &WORDS;
-    text::put(out, at, lines::line(table, number as usize))
+    text::put(out, at, words(number))
 }
 
 // A colon, and what a refusal number means.

@@ -6,7 +6,7 @@ abbrev pub invariant-loop-end : goal.invariant-loop-end
 invariant-loop-end g l = record {
   size_is : length l.room ≡ length l.initial.room;
   front_stays : take l.from l.room ≡ take l.from l.initial.room;
-  beyond : l.from ≤ l.end
+  beyond : l.from ≤ l.end;
 }
 
 abbrev pub decreases-loop-end : goal.decreases-loop-end
