@@ -1,5 +1,5 @@
-// The ten symbols of a VCDU header as one number of 40 bits, the first symbol highest: taken, put back, weighed and looked up. A leaf for the entries
-// of vcdu_header.
+// The ten symbols of a VCDU header as one number of 40 bits, the first symbol highest: taken, put back,
+// weighed and looked up. A leaf for the entries of vcdu_header.
 #![tactic(auto)]
 
 mod tables;
@@ -9,9 +9,6 @@ ghost use Rattle.header_code.specs.Code.{weight};
 ghost use Rattle.header_code.specs.Symbols.{symbols_of, combined};
 ghost use Rattle.header_code.specs.Decoder.{syndromes, checks};
 ghost use Rattle.header_symbols.specs.Header.{symbols, placed, put_after};
-ghost use Rattle.header_symbols.specs.Steps.{Mark};
-
-use base::wide;
 
 // A header has eight bytes.
 const HEADER: usize = 8;
@@ -43,10 +40,12 @@ fn byte_at(bytes: &[u8], place: usize) -> u8
 fn join(a: u8, b: u8, c: u8, d: u8, e: u8) -> u64
     ensures { result ≡ (((a * 256 + b) * 256 + c) * 256 + d) * 256 + e }
 {
-    (((wide(a) * 256 + wide(b)) * 256 + wide(c)) * 256 + wide(d)) * 256 + wide(e)
+    let upper = (u64::from(a) * 256 + u64::from(b)) * 256 + u64::from(c);
+    (upper * 256 + u64::from(d)) * 256 + u64::from(e)
 }
 
-// Puts the last ten symbols of a number into a header; the counter stays. Other than eight bytes are left as they are.
+// Puts the last ten symbols of a number into a header; the counter stays. Other than eight bytes are
+// left as they are.
 pub fn put(header: &mut [u8], word: u64)
     ensures { header.new ≡ put_after (symbols_of 10 word) header.old }
 {
@@ -89,11 +88,9 @@ fn combine(table: &[u16; 160], word: u64) -> u16
 {
     let mut sum: u16 = 0;
     let mut rest = word;
-    let mut place: usize = 0;
-    while place < 10 {
+    for place in 0..10 {
         sum = table[place * 16 + (rest % 16) as usize] ^ sum;
         rest = rest / 16;
-        place += 1;
     }
     sum
 }
@@ -104,21 +101,9 @@ pub fn weigh(word: u64) -> u64
 {
     let mut count: u64 = 0;
     let mut rest = word;
-    let mut place: usize = 0;
-    while place < 10 {
-        count += mark(rest % 16);
+    for _ in 0..10u64 {
+        count += u64::from(rest % 16 != 0);
         rest = rest / 16;
-        place += 1;
     }
     count
-}
-
-// 0 for 0, else 1.
-fn mark(c: u64) -> u64
-    ensures { Mark c result }
-{
-    if c == 0 {
-        return 0;
-    }
-    1
 }
