@@ -1,7 +1,7 @@
 // Finds the last recorded instant at or before a wanted one, by halving (paper 02, request 1).
 #![tactic(auto)]
 
-ghost use Rattle.std.specs.Prelude.{◌≡◌, ◌≤◌, ◌<◌, List, ℕ, length, get_or};
+ghost use Rattle.std.specs.Prelude.{◌≡◌, ◌≤◌, List, ℕ, length, get_or};
 ghost use Rattle.lookup.specs.Answer.{Halved};
 ghost use Rattle.lookup.specs.Promise.{FindPromise};
 
@@ -17,32 +17,66 @@ pub struct Found {
 // As many instants as a list may have.
 pub const MOST_INSTANTS: usize = 100_000;
 
+// Instants, however they are kept.
+pub trait Instants {
+    // They, in order.
+    ghost items: { Self → List ℕ };
+
+    fn count(&self) -> usize
+        ensures { result ≡ length (items self.now) };
+
+    // The instant at a place; 0 past the end.
+    fn instant(&self, place: usize) -> u64
+        ensures { result ≡ get_or (items self.now) place 0 };
+}
+
+// Instants as a list of numbers.
+#[derive(Clone, Copy)]
+struct Numbers<'a> {
+    numbers: &'a [u64],
+}
+
+impl<'a> Instants for Numbers<'a> {
+    ghost items = { λ n. n.numbers.now };
+
+    fn count(&self) -> usize {
+        self.numbers.len()
+    }
+
+    fn instant(&self, place: usize) -> u64 {
+        self.numbers.get(place).copied().unwrap_or(0)
+    }
+}
+
 // The last place whose instant is at most `wanted`; of a list that does not rise, the place that
 // halving comes to. Refused 12: more than 100,000 instants.
 pub fn find(instants: &[u64], wanted: u64) -> Result<Found, Refusal>
     ensures { FindPromise instants.now wanted result }
 {
-    if MOST_INSTANTS < instants.len() {
-        return Err(Refusal::ListTooLong);
-    }
-    Ok(halve(instants.len(), wanted, |place| instants[place]))
+    find_among(&Numbers { numbers: instants }, wanted)
 }
 
-// Halves `count` instants, however they are kept: `instant` reads the one at a place. Where `low` and
-// `high` meet, the place is the one before.
-pub fn halve<F: Fn(usize) -> u64>(count: usize, wanted: u64, instant: F) -> Found
-    ghost instants: { List ℕ }
-    requires few { (count ≡ length instants) × (count ≤ 100000) }
-    requires there { (i : ℕ) → i < count → F.pre instant i }
-    requires told { (i x : ℕ) → i < count → F.post instant i x → x ≡ get_or instants i 0 }
-    ensures { Halved instants wanted result }
+// The same among instants that are kept in another way.
+pub fn find_among<I: Instants>(instants: &I, wanted: u64) -> Result<Found, Refusal>
+    ensures { FindPromise (I.items instants.now) wanted result }
+{
+    if MOST_INSTANTS < instants.count() {
+        return Err(Refusal::ListTooLong);
+    }
+    Ok(halve(instants, wanted))
+}
+
+// Where `low` and `high` meet, the place is the one before.
+fn halve<I: Instants>(instants: &I, wanted: u64) -> Found
+    requires { length (I.items instants.now) ≤ 100000 }
+    ensures { Halved (I.items instants.now) wanted result }
 {
     let mut low = 0;
-    let mut high = count;
+    let mut high = instants.count();
     let mut looks = 0;
     while low < high {
         let half = (low + high) / 2;
-        if instant(half) <= wanted {
+        if instants.instant(half) <= wanted {
             low = half + 1;
         } else {
             high = half;

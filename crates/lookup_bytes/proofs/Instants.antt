@@ -3,9 +3,9 @@
 use mathlib.Core.Path.{◌≡◌, refl, sym, ap, ◌∙◌}
 use mathlib.Core.List.{List, [], ◌∷◌, map}
 use Rattle.std.proofs.Common.{Result, Err}
+use Rattle.std.proofs.lemmas.List.{get_or_past}
 use Prim.Native.Nat.{ℕ, zero, suc, ◌+◌, ◌*◌, ◌/◌, ◌%◌, ◌^◌, ◌≤◌, ◌<◌}
 use native.Mathlib.Omega.{arith}
-use lib.Dec.{lit<}
 use lib.ListN.{length, get_or}
 use lib.Seq.{get_or-take, get_or-drop}
 use borrow.Author.Tests.{ne_eqb}
@@ -14,7 +14,8 @@ use Rattle.base.specs.declared.refusal.Refusal.{Refusal}
 use Rattle.base.specs.declared.refusal.Refusal.TheVariants.{WrongLength}
 use Rattle.base.specs.Rows.{row, rows}
 use Rattle.base.proofs.Lists.{spelled}
-use Rattle.base.proofs.Rows.{row-length, rows-length, rows_at}
+use Rattle.base.proofs.Ranges.{tabulate-length, tabulate-at}
+use Rattle.base.proofs.Rows.{row-length}
 use Rattle.lookup.specs.declared.Found.{Found}
 use Rattle.lookup.specs.Promise.{FindPromise as FoundAmong}
 use Rattle.lookup.proofs.Promises.{answerable}
@@ -39,17 +40,14 @@ eight : (w : List ℕ) → length w ≡ 8
 unfolding big_endian
 eight w h = ap big_endian (spelled w 8 h) ∙ omega arith
 
-module _ (bytes : List ℕ) (whole : length bytes % 8 ≡ 0) where
-  -- as many rows as there are eights
-  eights : length bytes ≡ 8 * (length bytes / 8)
-  eights = omega arith
-
-  pub instants-length : length (instants_in bytes) ≡ length bytes / 8
-  unfolding instants_in
-  instants-length = map-length (rows 8 bytes) ∙ rows-length 8 bytes (length bytes / 8) (lit< tt) eights
-
+module _ (bytes : List ℕ) where
+  -- as many rows as there are eights; a rest counts as none
   pub count_is : length bytes / 8 ≡ length (instants_in bytes)
-  count_is = sym instants-length
+  unfolding instants_in rows
+  count_is = sym (map-length (rows 8 bytes) ∙ tabulate-length (row 8 bytes) 0 (length bytes / 8))
+
+  pub past-end : (k : ℕ) → length bytes / 8 ≤ k → 0 ≡ get_or (instants_in bytes) k 0
+  past-end k h = sym (get_or_past (instants_in bytes) k 0 (omega (arith, count_is)))
 
   module _ (k : ℕ) (inside : 8 * k + 8 ≤ length bytes) where
     byte_of : (i j : ℕ) → i < 8 → j ≡ 8 * k + i → get_or (row 8 bytes k) i 0 ≡ get_or bytes j 0
@@ -57,8 +55,10 @@ module _ (bytes : List ℕ) (whole : length bytes % 8 ≡ 0) where
     byte_of i j h e = rw (e, get_or-take, get_or-drop)
 
     instant-is : get_or (instants_in bytes) k 0 ≡ big_endian (row 8 bytes k)
-    unfolding instants_in
-    instant-is = map_at (rows 8 bytes) k ∙ ap big_endian (rows_at 8 bytes (length bytes / 8) (lit< tt) eights k (omega arith))
+    unfolding instants_in rows
+    instant-is =
+        let z : 0 + k ≡ k = omega arith in
+        map_at (rows 8 bytes) k ∙ ap big_endian (tabulate-at (row 8 bytes) 0 (length bytes / 8) k [] (omega arith) ∙ ap (row 8 bytes) z)
 
     -- instant k is made of the four bytes from 8 k on and of the four after them
     pub instant-read : (upper lower : ℕ) → FourRead bytes (8 * k) upper → FourRead bytes (8 * k + 4) lower

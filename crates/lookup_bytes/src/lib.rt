@@ -4,14 +4,33 @@
 #![tactic(auto)]
 
 ghost use Rattle.std.specs.Prelude.{◌≡◌, ◌+◌, ◌*◌, ◌/◌, ◌%◌, ◌^◌, ◌≤◌, ◌<◌, length, get_or};
-ghost use Rattle.lookup.specs.Answer.{Halved};
 ghost use Rattle.lookup_bytes.specs.Promise.{instants_in, FourRead, FindPromise};
 
 use base::refusal::Refusal;
-use lookup::Found;
+use lookup::{Found, Instants};
 
 // The bytes of an instant.
 const WIDTH: usize = 8;
+
+// Instants as bytes, eight each.
+#[derive(Clone, Copy)]
+struct EightBytes<'a> {
+    bytes: &'a [u8],
+}
+
+impl<'a> Instants for EightBytes<'a> {
+    ghost use Rattle.lookup_bytes.specs.Promise.{instants_in};
+
+    ghost items = { λ e. instants_in e.bytes.now };
+
+    fn count(&self) -> usize {
+        count(self.bytes)
+    }
+
+    fn instant(&self, place: usize) -> u64 {
+        instant_at(self.bytes, place)
+    }
+}
 
 // The answer of `lookup::find` on the instants that the bytes are. Refused 2: no whole number of
 // instants. Refused 12: more than 100,000.
@@ -21,32 +40,26 @@ pub fn find(instants: &[u8], wanted: u64) -> Result<Found, Refusal>
     if instants.len() % WIDTH != 0 {
         return Err(Refusal::WrongLength);
     }
-    if lookup::MOST_INSTANTS < instants.len() / WIDTH {
-        return Err(Refusal::ListTooLong);
+    lookup::find_among(&EightBytes { bytes: instants }, wanted)
+}
+
+// How many whole instants the bytes are.
+fn count(bytes: &[u8]) -> usize
+    ensures { result ≡ length (instants_in bytes.now) }
+{
+    bytes.len() / WIDTH
+}
+
+// The instant at a place; 0 past the last whole one. It is read in two halves, each a sum from its
+// lowest byte on, so that the eight bytes are compiled to one load.
+fn instant_at(bytes: &[u8], place: usize) -> u64
+    ensures { result ≡ get_or (instants_in bytes.now) place 0 }
+{
+    if count(bytes) <= place {
+        return 0;
     }
-    Ok(halve(instants, wanted))
-}
-
-fn halve(instants: &[u8], wanted: u64) -> Found
-    requires whole { length instants.now % 8 ≡ 0 }
-    requires few { length instants.now ≤ 800000 }
-    requires count { length instants.now / 8 ≡ length (instants_in instants.now) }
-    ensures { Halved (instants_in instants.now) wanted result }
-{
-    lookup::halve(
-        instants.len() / WIDTH,
-        wanted,
-        |place| instant_at(instants, place),
-    )
-}
-
-// Read in two halves, each a sum from its lowest byte on, so that the eight bytes are compiled to one load.
-fn instant_at(instants: &[u8], place: usize) -> u64
-    requires { (length instants.now % 8 ≡ 0) × (8 * place + 8 ≤ length instants.now) }
-    ensures { result ≡ get_or (instants_in instants.now) place 0 }
-{
     let at = WIDTH * place;
-    four(instants, at + 4) + 0x1_0000_0000 * four(instants, at)
+    four(bytes, at + 4) + 0x1_0000_0000 * four(bytes, at)
 }
 
 // The number that four bytes are.

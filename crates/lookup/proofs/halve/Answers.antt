@@ -7,11 +7,12 @@ use Rattle.lookup.proofs.halve.Goals.{then-instant-wanted, else-instant-wanted}
 
 pub loop-low-preserved : goal.loop-low-preserved
 loop-low-preserved g c =
+    let xs = g.I.Instants.items c.args.instants.now in
     let turn = c.loop-low.invariant in
-    let read = c.requires.1.1.1 _ _ (omega arith) c.instant.ensures in
+    let read = c.instant.ensures in
     elim c.if-instant-wanted.branch [
-      | then-instant-wanted w ↦ turn_past g.instants c.args.wanted turn (omega arith) refl refl (omega arith) (omega arith) (omega arith)
-      | else-instant-wanted w ↦ turn_before g.instants c.args.wanted turn (omega arith) refl refl (omega arith) (omega arith) (omega arith)
+      | then-instant-wanted w ↦ turn_past xs c.args.wanted turn (omega arith) refl refl (omega arith) (omega arith) (omega arith)
+      | else-instant-wanted w ↦ turn_before xs c.args.wanted turn (omega arith) refl refl (omega arith) (omega arith) (omega arith)
     ]
 
 pub returns : goal.returns
