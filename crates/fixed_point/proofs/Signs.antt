@@ -21,7 +21,7 @@ module _ (n : ℕ) (N : n < 2 ^ 32) where
   less : to_z w64 n -ℤ pos 4294967296 ≡ sub_ℕ n 4294967296
   less = rw read_back
 
-  pub fits : SFits w64 (to_z w64 n -ℤ pos 4294967296)
+  fits : SFits w64 (to_z w64 n -ℤ pos 4294967296)
   fits = rw (less, lt-ltb n 4294967296 N) (record { sfits = omega arith })
 
   pub negative : 2 ^ 31 ≤ n → to_z w64 (of_z w64 (to_z w64 n -ℤ pos 4294967296)) ≡ signed n

@@ -29,9 +29,9 @@ pub fn signed(count: u32) -> i64
     ensures { result ≡ signedCount count }
 {
     if count < SIGN {
-        return count as i64;
+        return i64::from(count);
     }
-    count as i64 - 4_294_967_296
+    i64::from(count) - 4_294_967_296
 }
 
 // The count times 2^−places. It is exact, whatever the two are.
@@ -42,9 +42,9 @@ pub fn scaled(count: u32, places: u8) -> f64
         return 0.0;
     }
     if count < SIGN {
-        return double(0, count as u64, places);
+        return double(0, u64::from(count), places);
     }
-    double(1, MODULUS - count as u64, places)
+    double(1, MODULUS - u64::from(count), places)
 }
 
 // The double ±magnitude × 2^−places. The first digit of the magnitude, moved to the place of the exponent field, adds one to it.
@@ -52,7 +52,7 @@ fn double(sign: u64, magnitude: u64, places: u8) -> f64
     requires { (sign ≤ 1) × (0 < magnitude) × (magnitude < 2 ^ 32) }
     ensures { result ≡ odd 53 (eqb sign 1) magnitude 0 places }
 {
-    let shift = (u64::leading_zeros(magnitude) - SPARE) as u64;
-    let field = UNIT_FIELD - places as u64 - shift;
+    let shift = u64::from(magnitude.leading_zeros() - SPARE);
+    let field = UNIT_FIELD - u64::from(places) - shift;
     f64::from_bits(sign * SIGN_BIT + field * EXPONENT_UNIT + (magnitude << shift))
 }

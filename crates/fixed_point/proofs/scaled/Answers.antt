@@ -9,9 +9,9 @@ returns-then-count-eq0 c = promised_zero c.args.places c.args.count (omega arith
 pub returns-then-count-lt-SIGN : goal.returns-then-count-lt-SIGN
 returns-then-count-lt-SIGN c =
     let a = c.args in
-    promised_positive a.places a.count (omega arith) (omega arith) _ (omega arith) (omega arith) c.double.ensures
+    promised_positive a.places a.count (omega arith) (omega arith) _ (omega arith) (omega arith) (rw c.from.ensures at c.double.ensures)
 
 pub returns : goal.returns
 returns c =
     let a = c.args in
-    promised_negative a.places a.count (omega arith) (omega arith) _ (omega arith) c.double-2.ensures
+    promised_negative a.places a.count (omega arith) (omega arith) _ (omega arith) (rw c.from-2.ensures at c.double-2.ensures)
