@@ -8,7 +8,7 @@ use labelling::{Operators, Tally};
 const TEXT: usize = 128;
 
 pub(crate) fn show(rt: &impl ErrorOutput, t: Tally, handed: u64, operators: bool) {
-    tally_text::show(&rt.error_output(), t);
+    let _ = tally_text::show(&rt.error_output(), t);
     let mut space = [0u8; TEXT];
     show_lead_ins(rt, &mut space, handed);
     if operators {

@@ -51,7 +51,7 @@ fn complain(rt: &impl Eprint, line: &str) {
 fn report(rt: &(impl Print + Eprint), t: Tally, read: u64)
     requires { TallyOf read t }
 {
-    if !tally_text::show(rt, t) {
+    if tally_text::show(rt, t).is_err() {
         complain(rt, "pcd_tally: standard output cannot be written");
     }
 }

@@ -1,4 +1,4 @@
--- What is added to a text, byte by byte, slice by slice and line by line: each law joins what two additions add. Assumes nothing.
+-- What is added to a text, slice by slice and line by line: each law joins what two additions add. Assumes nothing.
 use mathlib.Core.Path.{◌≡◌, refl, sym, ap, ◌∙◌}
 use mathlib.Core.Bool.{Bool, true, false}
 use mathlib.Core.List.{List, [], ◌∷◌, ◌++◌, append-nil, append_assoc}
@@ -17,27 +17,12 @@ use Rattle.tally_text.specs.declared.Text.{Text}
 use Rattle.tally_text.specs.Listing.{ascii, Count, counted, group_counts, frame_counts, run_counts, Lines}
 use Rattle.tally_text.specs.Listing.{none, line, written, Adds, Lined, Room, ListingPromise}
 
-pub adds_byte : (a : Text) (b : ℕ) → a.length < length a.bytes
-    → Adds a (b ∷ []) (record { bytes = set a.bytes a.length b; length = a.length + 1 })
-adds_byte a b h = record { text_is = rw (add-one, take-suc-set a.bytes a.length b h); length-is = refl; room_is = simp length-set }
-
-pub adds_nothing : (a : Text) → Adds a [] a
-adds_nothing a = record { text_is = sym (append-nil (written a)); length-is = omega arith; room_is = refl }
-
 pub adds_append : {a b c : Text} {xs ys : List ℕ} → Adds a xs b → Adds b ys c → Adds a (xs ++ ys) c
 adds_append {a} {b} {c} {xs} {ys} p q = record {
   text_is = q.text_is ∙ rw (p.text_is, append_assoc);
   length-is = omega (arith, p.length-is, q.length-is, length-append xs ys);
   room_is = q.room_is ∙ p.room_is;
 }
-
--- so much of a slice is added, and then one byte more
-pub adds_one_more : {a b c : Text} (s : List ℕ) (i : ℕ) → i < length s → Adds a (take i s) b → Adds b (get_or s i 0 ∷ []) c → Adds a (take (i + 1) s) c
-adds_one_more s i h p q = rw (add-one, take-suc s i 0 h) (adds_append p q)
-
--- what room is left after an addition
-pub room_after : {a b : Text} {xs : List ℕ} {n m : ℕ} → Room a n → Adds a xs b → length xs + m ≤ n → Room b m
-room_after r p h = record { fits = omega (arith, r.fits, p.length-is); whole = p.room_is ∙ r.whole }
 
 -- ---- lines
 

@@ -1,9 +1,0 @@
--- `tally_text::with_runs` meets its contract: one line after the other. Assumes nothing.
-use Rattle.tally_text.proofs.TextLaws.{lined_append}
-use Rattle.tally_text.proofs.with_runs.Goals as goal
-
-pub returns : goal.returns
-returns c =
-    let to-second = lined_append c.with_line-a.ensures c.with_line-b.ensures in
-    let to-third = lined_append to-second c.with_line-c.ensures in
-    lined_append to-third c.with_line.ensures
