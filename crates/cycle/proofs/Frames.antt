@@ -12,7 +12,8 @@ use Rattle.base.specs.Rows.{row}
 use Rattle.base.proofs.Ranges.{each-true, each-false}
 use Rattle.base.proofs.Rows.{row_is}
 use Rattle.word72_column.specs.Columns.{gathered, gather_after, column_kind}
-use Rattle.word72_column.specs.declared.ColumnKind.{ColumnKind}
+use Rattle.std.proofs.Common.{Result}
+use Rattle.base.specs.declared.refusal.Refusal.{Refusal}
 use Rattle.cycle.specs.Cycle.{is_numbered, all_numbered, answers_kind, is_kind, is_major, is_cycle}
 
 -- a test of the rows of a frame or of a body, told of one row by its start and end
@@ -59,7 +60,7 @@ module _ (y : ℕ) (body : List ℕ) where
 pub gathers : (area column : List ℕ) → length area ≡ 16384 → length column ≡ 128 → gather_after area column ≡ gathered area
 gathers area column a b = rw (a, b)
 
-pub kind_is : (y k : ℕ) (frame column : List ℕ) (r : ColumnKind) → column ≡ gathered frame → r ≡ column_kind y column → answers_kind k r ≡ is_kind y k frame
+pub kind_is : (y k : ℕ) (frame column : List ℕ) (r : Result ℕ Refusal) → column ≡ gathered frame → r ≡ column_kind y column → answers_kind k r ≡ is_kind y k frame
 unfolding is_kind
 kind_is y k frame column r e f = ap (answers_kind k) (f ∙ ap (column_kind y) e)
 

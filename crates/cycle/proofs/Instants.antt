@@ -10,7 +10,8 @@ use lib.ListN.{length, get_or, take}
 use lib.Seq.{get_or-take}
 use Rattle.base.specs.Format.{major_frame}
 use Rattle.base.specs.Ranges.{each}
-use Rattle.base.specs.Refusal.{◌when◌, answered}
+use Rattle.base.specs.declared.refusal.Refusal.TheVariants.{WrongLength, NoSuchKind, YearOutsideSpan}
+use Rattle.base.specs.Refusals.{◌when◌, answered}
 use Rattle.base.specs.Rows.{row}
 use Rattle.time_code.specs.Calendar.{in_span}
 use Rattle.time_code.specs.Codec.{decoded, time_of}
@@ -21,7 +22,6 @@ use Rattle.time_code.specs.declared.TimeCode.{TimeCode}
 use Rattle.time_code.proofs.Codes.{to-accepted}
 use Rattle.time_fields.proofs.Fields.{Digits, to-digits, InRange, to-range}
 use Rattle.word72_column.specs.Columns.{gathered, bears, timed, column_kind}
-use Rattle.word72_column.specs.declared.ColumnKind.TheVariants as column
 use Rattle.cycle.specs.Cycle.{cycle_length, all_numbered, answers_kind, is_kind, is_major, is_cycle, time_bytes, instant_in, instant_of}
 
 -- word 72 of the minor frames 96 to 102
@@ -87,9 +87,9 @@ unfolding column_kind
 kind_timed y c h = go (eqb (length c) 128) (in_span y) (bears 1 c) (bears 2 c) (bears 3 c) (timed y c) h
   where
     go : (long inside one two three time : Bool)
-        → T (answers_kind 0 (answered column.Refused
-        (2 when not long ∷ 13 when not inside ∷ 6 when not (one || two || three || time) ∷ [])
-        (column.Kind (cond one 1 (cond two 2 (cond three 3 0))))))
+        → T (answers_kind 0 (answered Err
+        (WrongLength when not long ∷ YearOutsideSpan when not inside ∷ NoSuchKind when not (one || two || three || time) ∷ [])
+        (Ok (cond one 1 (cond two 2 (cond three 3 0))))))
         → (inside ≡ true) × (time ≡ true)
     go false inside one two three time h = absurd h
     go true false one two three time h = absurd h

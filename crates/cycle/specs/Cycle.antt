@@ -9,8 +9,6 @@ use Rattle.time_code.specs.Codec.{decoded}
 use Rattle.base.specs.declared.refusal.Refusal.{Refusal}
 use Rattle.time_code.specs.declared.TimeCode.{TimeCode}
 use Rattle.word72_column.specs.Columns.{gathered, between, column_kind}
-use Rattle.word72_column.specs.declared.ColumnKind.{ColumnKind}
-use Rattle.word72_column.specs.declared.ColumnKind.TheVariants as column
 
 abbrev pub cycle_length : ℕ
 cycle_length = 65536
@@ -24,9 +22,9 @@ unfoldable pub all_numbered : List ℕ → Bool
 all_numbered frame = each (λ m. is_numbered (row minor_frame frame m) m) 0 128
 
 -- the question for a column's kind is answered k
-abbrev pub answers_kind : ℕ → ColumnKind → Bool
-answers_kind k (column.Kind j) = eqb j k
-answers_kind k (column.Refused n) = false
+abbrev pub answers_kind : ℕ → Result ℕ Refusal → Bool
+answers_kind k (Ok j) = eqb j k
+answers_kind k (Err n) = false
 
 unfoldable pub is_kind : ℕ → ℕ → List ℕ → Bool
 is_kind y k frame = answers_kind k (column_kind y (gathered frame))

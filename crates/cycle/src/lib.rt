@@ -104,10 +104,11 @@ fn is_kind(year: u64, kind: u64, frame: &[u8]) -> bool
     ensures { result ≡ is_kind year kind frame.now }
 {
     let mut column = [0u8; 128];
-    word72_column::gather(frame, &mut column);
+    // It cannot be refused: both have the lengths that it asks for.
+    let _ = word72_column::gather(frame, &mut column);
     match word72_column::kind(year, &column) {
-        word72_column::ColumnKind::Kind(found) => found == kind,
-        word72_column::ColumnKind::Refused(_) => false,
+        Ok(found) => found == kind,
+        Err(_) => false,
     }
 }
 

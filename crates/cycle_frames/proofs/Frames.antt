@@ -9,8 +9,8 @@ use lib.Dec.{eqb}
 use lib.ListN.{length}
 use borrow.Author.Tests.{eqb-true}
 use Rattle.word72_column.specs.Columns.{gathered, column_kind}
-use Rattle.word72_column.specs.declared.ColumnKind.{ColumnKind}
-use Rattle.word72_column.specs.declared.ColumnKind.TheVariants.{Kind, Refused}
+use Rattle.std.proofs.Common.{Result, Ok, Err}
+use Rattle.base.specs.declared.refusal.Refusal.{Refusal}
 use Rattle.cycle.specs.Cycle.{all_numbered, answers_kind, is_kind, is_major, is_frame}
 use Rattle.cycle_frames.specs.Cycles.{joined_frames, cycles_in}
 
@@ -30,9 +30,9 @@ major_kind : (y k : ℕ) (f : List ℕ) → is_major y k f ≡ true → is_kind 
 unfolding is_major
 major_kind y k f e = (both (all_numbered f) (is_kind y k f) e).1
 
-answers_one : (j k : ℕ) (r : ColumnKind) → answers_kind j r ≡ true → answers_kind k r ≡ true → j ≡ k
-answers_one j k (Kind i) a b = sym (eqb-true i j a) ∙ eqb-true i k b
-answers_one j k (Refused n) a b = let z : ◌≡◌ {A = ℕ} 0 1 = cc in absurd (omega arith)
+answers_one : (j k : ℕ) (r : Result ℕ Refusal) → answers_kind j r ≡ true → answers_kind k r ≡ true → j ≡ k
+answers_one j k (Ok i) a b = sym (eqb-true i j a) ∙ eqb-true i k b
+answers_one j k (Err n) a b = let z : ◌≡◌ {A = ℕ} 0 1 = cc in absurd (omega arith)
 
 one-kind : (y j k : ℕ) (f : List ℕ) → is_kind y j f ≡ true → is_kind y k f ≡ true → j ≡ k
 unfolding is_kind

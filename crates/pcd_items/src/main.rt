@@ -65,14 +65,12 @@ fn show_frames<R: std::io::Input + Print + ErrorOutput>(rt: &R, year: u64) -> bo
     let mut text_space = io::large_buffer();
     let text: &mut [u8] = &mut text_space;
     let mut input = rt.reader();
-    let mut frame: u64 = 0;
-    while frame < MOST_FRAMES {
+    for frame in 0..MOST_FRAMES {
         match turn(rt, &mut input, year, frame, &mut *area, &mut *text) {
             Input::More => (),
             Input::Ended => return true,
             Input::Failed => return false,
         }
-        frame += 1;
     }
     false
 }
@@ -129,7 +127,8 @@ fn show_frame(
     text: &mut [u8],
 ) -> bool {
     let mut column = [0u8; 128];
-    subcom::gather(area, &mut column);
+    // It is not refused: the area is a whole major frame.
+    let _ = subcom::gather(area, &mut column);
     show_column(rt, year, frame, &column, text)
 }
 

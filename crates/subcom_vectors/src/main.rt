@@ -4,7 +4,8 @@
 
 use std::io;
 use std::io::Input;
-use subcom::{ColumnKind, Description, EightFlags, Form, Item, ItemCount, Reading};
+use base::refusal::{self, Refusal};
+use subcom::{EightFlags, Form, Item, Reading};
 use vectors::{field, filled, number, put, put_bytes, put_number, put_refusal};
 
 // A record: the operation, seven bytes of nothing, three numbers of eight bytes, and the year in as many.
@@ -20,12 +21,10 @@ fn main(rt: HostRuntime) -> io::Result<()> {
     let mut column_space = [0u8; 160];
     let area: &mut [u8] = &mut area_space;
     let column: &mut [u8] = &mut column_space;
-    let mut left = vectors::MOST_RECORDS;
-    while left > 0 {
+    for _ in 0..vectors::MOST_RECORDS {
         if !turn(&rt, &mut *area, &mut *column)? {
             return Ok(());
         }
-        left -= 1;
     }
     Ok(())
 }
@@ -103,8 +102,8 @@ fn gather(rt: &impl Print, area: &[u8], column: &mut [u8], n: u64) -> io::Result
     let count = n as usize;
     if count <= column.len() {
         let out = &mut column[0..count];
-        let answer = subcom::gather(area, out);
-        put_number(rt, answer as u64)?;
+        let answer = refusal::code(subcom::gather(area, out));
+        put_number(rt, u64::from(answer))?;
         put(rt, b" ")?;
         put_bytes(rt, column)?;
         put(rt, b"\n")?;
@@ -115,27 +114,25 @@ fn gather(rt: &impl Print, area: &[u8], column: &mut [u8], n: u64) -> io::Result
 
 fn kind(rt: &impl Print, year: u64, column: &[u8]) -> io::Result<()> {
     match subcom::kind(year, column) {
-        ColumnKind::Kind(k) => {
+        Ok(k) => {
             field(rt, b"kind ", k)?;
             put(rt, b"\n")
         }
-        ColumnKind::Refused(r) => put_refusal(rt, r),
+        Err(r) => put_refusal(rt, r.number()),
     }
 }
 
 // Writes what each item of a kind is, its bytes, and what it reads as.
 fn list(rt: &impl Print, year: u64, column: &[u8], kind: u64) -> io::Result<()> {
     match subcom::item_count(kind) {
-        ItemCount::Items(n) => list_items(rt, year, column, kind, n),
-        ItemCount::Refused(r) => put_refusal(rt, r),
+        Ok(n) => list_items(rt, year, column, kind, n),
+        Err(r) => put_refusal(rt, r.number()),
     }
 }
 
 fn list_items(rt: &impl Print, year: u64, column: &[u8], kind: u64, n: u64) -> io::Result<()> {
-    let mut item = 0;
-    while item < n {
+    for item in 0..n {
         list_item(rt, year, column, kind, item)?;
-        item += 1;
     }
     Ok(())
 }
@@ -144,28 +141,33 @@ fn list_item(rt: &impl Print, year: u64, column: &[u8], kind: u64, item: u64) ->
     put_number(rt, kind)?;
     field(rt, b" ", item)?;
     match subcom::describe(kind, item) {
-        Description::Found(i) => put_item(rt, i)?,
-        Description::Refused(r) => put_number(rt, r as u64)?,
+        Ok(i) => put_item(rt, i)?,
+        Err(r) => put_number(rt, u64::from(r.number()))?,
     }
-    put(rt, b" [")?;
-    put_bytes(rt, subcom::part(column, kind, item))?;
-    put(rt, b"] ")?;
-    put_reading(rt, subcom::read(year, column, kind, item))
+    put_values(rt, year, column, kind, item)
 }
 
 // Writes the answers of all entries on one item.
 fn ask(rt: &impl Print, year: u64, column: &[u8], kind: u64, item: u64) -> io::Result<()> {
-    put_number(rt, subcom::part_refusal(column, kind, item) as u64)?;
+    let refusal = refusal::code(subcom::part(column, kind, item));
+    put_number(rt, u64::from(refusal))?;
+    put_values(rt, year, column, kind, item)
+}
+
+// Writes the bytes of an item, none where it is refused, and what they read as.
+fn put_values(rt: &impl Print, year: u64, column: &[u8], kind: u64, item: u64) -> io::Result<()> {
     put(rt, b" [")?;
-    put_bytes(rt, subcom::part(column, kind, item))?;
+    put_bytes(
+        rt,
+        subcom::part(column, kind, item).unwrap_or(&column[..0]),
+    )?;
     put(rt, b"] ")?;
     put_reading(rt, subcom::read(year, column, kind, item))
 }
 
 fn put_item(rt: &impl Print, i: Item) -> io::Result<()> {
     put(rt, b" ")?;
-    let form = i.form;
-    put_form(rt, form)?;
+    put_form(rt, i.form)?;
     field(rt, b" ", i.first as u64)?;
     field(rt, b" ", i.length as u64)
 }
@@ -181,17 +183,17 @@ fn put_form(rt: &impl Print, form: Form) -> io::Result<()> {
     }
 }
 
-fn put_reading(rt: &impl Print, r: Reading) -> io::Result<()> {
-    match r {
-        Reading::Count(n) => {
+fn put_reading(rt: &impl Print, answer: Result<Reading, Refusal>) -> io::Result<()> {
+    match answer {
+        Ok(Reading::Count(n)) => {
             field(rt, b"count ", n)?;
             put(rt, b"\n")
         }
-        Reading::Flags(f) => put_flags(rt, f),
-        Reading::Number(x) => vectors::put_double(rt, x),
-        Reading::Time(t) => vectors::put_time(rt, t.spacecraft, t.instant),
-        Reading::Fill => put(rt, b"fill\n"),
-        Reading::Refused(r) => put_refusal(rt, r),
+        Ok(Reading::Flags(f)) => put_flags(rt, f),
+        Ok(Reading::Number(x)) => vectors::put_double(rt, x),
+        Ok(Reading::Time(t)) => vectors::put_time(rt, t.spacecraft, t.instant),
+        Ok(Reading::Fill) => put(rt, b"fill\n"),
+        Err(r) => put_refusal(rt, r.number()),
     }
 }
 

@@ -1,7 +1,7 @@
 -- What the entries of word 72 leave in the lent places: what the item, the kind or the reading is, as numbers, or what was there before.
 -- Definitions only.
 use Rattle.std.specs.Prelude.{◌≡◌, List, [], ◌∷◌, map, ℕ, Float, replicate}
-use Rattle.base.specs.Refusal.{answered, refusal}
+use Rattle.base.specs.Refusals.{answered, refusal}
 use Rattle.word72_items.specs.declared.Form.{Form}
 use Rattle.word72_items.specs.declared.Form.TheVariants as form
 use Rattle.word72_items.specs.declared.Item.{Item}

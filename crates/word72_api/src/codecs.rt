@@ -3,19 +3,18 @@ ghost use Rattle.time_code.specs.Promise.{EncodePromise as TimeWritten};
 ghost use Rattle.float1750.specs.Promise.{EncodePromise as NumberWritten};
 ghost use Rattle.word72_api.specs.LentPlaces.{time_code, TimeCrossed, NumberCrossed};
 
+use base::refusal::{code, pass};
+
 // Reads a time code of a year; `out` gets the spacecraft, then the instant.
 pub fn pcd_decode_time(year: u64, bytes: &[u8], out: &mut [u64; 2]) -> u8
     ensures { TimeCrossed year bytes.now result out.old out.new }
 {
-    let d = time_code::decode(year, bytes);
-    match d {
+    match time_code::decode(year, bytes) {
         Ok(t) => {
             *out = [t.spacecraft, t.instant];
-            return 0;
+            0
         }
-        Err(refusal) => {
-            return refusal.number();
-        }
+        Err(refusal) => refusal.number(),
     }
 }
 
@@ -24,31 +23,22 @@ pub fn pcd_encode_time(year: u64, spacecraft: u64, instant: u64, out: &mut [u8])
     ensures { TimeWritten year (time_code spacecraft instant) out.old out.new result }
 {
     let t = time_code::TimeCode {
-        spacecraft: spacecraft,
-        instant: instant,
+        spacecraft,
+        instant,
     };
-    base::refusal::code(time_code::encode(year, t, out))
+    code(time_code::encode(year, t, out))
 }
 
 // Reads a number of MIL-STD-1750.
 pub fn pcd_decode_number(bytes: &[u8], out: &mut f64) -> u8
     ensures { NumberCrossed bytes.now result out.old out.new }
 {
-    let d = float1750::decode(bytes);
-    match d {
-        Ok(x) => {
-            *out = x;
-            return 0;
-        }
-        Err(refusal) => {
-            return refusal.number();
-        }
-    }
+    pass(float1750::decode(bytes), out)
 }
 
 // Writes the six bytes of a double.
 pub fn pcd_encode_number(x: f64, out: &mut [u8]) -> u8
     ensures { NumberWritten x out.old out.new result }
 {
-    base::refusal::code(float1750::encode(x, out))
+    code(float1750::encode(x, out))
 }

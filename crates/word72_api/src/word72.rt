@@ -2,47 +2,31 @@
 ghost use Rattle.std.specs.Prelude.{◌≡◌};
 ghost use Rattle.subcom.specs.Parts.{part_refusal};
 ghost use Rattle.word72_column.specs.Promise.{GatherPromise};
-ghost use Rattle.word72_reading.specs.Readings.{bits_in};
-ghost use Rattle.word72_reading.specs.Values.{flags};
-ghost use Rattle.word72_api.specs.Word72.{form_number, value_numbers, KindCrossed, CountCrossed, DescribeCrossed, ReadCrossed};
+ghost use Rattle.word72_reading.specs.Readings.{value_in};
+ghost use Rattle.word72_api.specs.Word72.{item_numbers, value_numbers, KindCrossed, CountCrossed, DescribeCrossed, ReadCrossed};
 
-use subcom::{ColumnKind, Description, EightFlags, Form, ItemCount, Reading};
+use base::refusal::{code, pass};
+use subcom::{Item, Reading};
 
 // Puts word 72 of each minor frame of a major frame into the column.
 pub fn pcd_gather(area: &[u8], column: &mut [u8]) -> u8
     ensures { GatherPromise area.now column.old column.new result }
 {
-    subcom::gather(area, column)
+    code(subcom::gather(area, column))
 }
 
 // The kind of a column recorded in a year.
 pub fn pcd_kind(year: u64, column: &[u8], out: &mut u64) -> u8
     ensures { KindCrossed year column.now result out.old out.new }
 {
-    match subcom::kind(year, column) {
-        ColumnKind::Kind(k) => {
-            *out = k;
-            return 0;
-        }
-        ColumnKind::Refused(number) => {
-            return number;
-        }
-    }
+    pass(subcom::kind(year, column), out)
 }
 
 // How many items a kind has.
 pub fn pcd_item_count(kind: u64, out: &mut u64) -> u8
     ensures { CountCrossed kind result out.old out.new }
 {
-    match subcom::item_count(kind) {
-        ItemCount::Items(n) => {
-            *out = n;
-            return 0;
-        }
-        ItemCount::Refused(number) => {
-            return number;
-        }
-    }
+    pass(subcom::item_count(kind), out)
 }
 
 // What an item is; `out` gets its form's number, its first place and its length.
@@ -50,36 +34,26 @@ pub fn pcd_describe(kind: u64, item: u64, out: &mut [u64; 3]) -> u8
     ensures { DescribeCrossed kind item result out.old out.new }
 {
     match subcom::describe(kind, item) {
-        Description::Found(i) => {
-            let f = i.form;
-            let form = form_number(f);
-            *out = [form, i.first as u64, i.length as u64];
-            return 0;
+        Ok(found) => {
+            *out = item_numbers(found);
+            0
         }
-        Description::Refused(number) => {
-            return number;
-        }
+        Err(refusal) => refusal.number(),
     }
 }
 
-fn form_number(form: Form) -> u64
-    ensures { result ≡ form_number form }
+// An item as its form, its first place and its length.
+fn item_numbers(i: Item) -> [u64; 3]
+    ensures { result ≡ item_numbers i }
 {
-    match form {
-        Form::Count => 0,
-        Form::TwelveBit => 1,
-        Form::Flags => 2,
-        Form::Number => 3,
-        Form::Time => 4,
-        Form::Fill => 5,
-    }
+    [i.form as u64, i.first as u64, i.length as u64]
 }
 
 // Why a part of a column is refused, 0 where it is not.
 pub fn pcd_part_refusal(column: &[u8], kind: u64, item: u64) -> u8
     ensures { result ≡ part_refusal column.now kind item }
 {
-    subcom::part_refusal(column, kind, item)
+    code(subcom::part(column, kind, item))
 }
 
 // What an item of a column recorded in a year reads as; `out` gets what that is (0 a count, 2 flags, 3 a number, 4 a time, 5 fill), then its
@@ -96,43 +70,36 @@ pub fn pcd_read(
         out.old out.new number.old number.new }
 {
     match subcom::read(year, column, kind, item) {
-        Reading::Count(n) => {
-            *out = [0, n, 0, 0, 0, 0, 0, 0, 0];
-            return 0;
+        Ok(reading) => {
+            *out = value_numbers(reading);
+            if let Reading::Number(x) = reading {
+                *number = x;
+            }
+            0
         }
-        Reading::Flags(f) => {
-            put_flags(f, out);
-            return 0;
-        }
-        Reading::Number(x) => {
-            *out = [3, 0, 0, 0, 0, 0, 0, 0, 0];
-            *number = x;
-            return 0;
-        }
-        Reading::Time(t) => {
-            *out = [4, t.spacecraft, t.instant, 0, 0, 0, 0, 0, 0];
-            return 0;
-        }
-        Reading::Fill => {
-            *out = [5, 0, 0, 0, 0, 0, 0, 0, 0];
-            return 0;
-        }
-        Reading::Refused(refusal) => {
-            return refusal;
-        }
+        Err(refusal) => refusal.number(),
     }
 }
 
-fn put_flags(f: EightFlags, out: &mut [u64; 9])
-    ensures { out.new ≡ value_numbers (flags (bits_in f)) }
+// What a reading is, and its values; a number's double has a place of its own.
+fn value_numbers(reading: Reading) -> [u64; 9]
+    ensures { result ≡ value_numbers (value_in reading) }
 {
-    let b0 = f.bit0 as u64;
-    let b1 = f.bit1 as u64;
-    let b2 = f.bit2 as u64;
-    let b3 = f.bit3 as u64;
-    let b4 = f.bit4 as u64;
-    let b5 = f.bit5 as u64;
-    let b6 = f.bit6 as u64;
-    let b7 = f.bit7 as u64;
-    *out = [2, b0, b1, b2, b3, b4, b5, b6, b7];
+    match reading {
+        Reading::Count(n) => [0, n, 0, 0, 0, 0, 0, 0, 0],
+        Reading::Flags(f) => [
+            2,
+            u64::from(f.bit0),
+            u64::from(f.bit1),
+            u64::from(f.bit2),
+            u64::from(f.bit3),
+            u64::from(f.bit4),
+            u64::from(f.bit5),
+            u64::from(f.bit6),
+            u64::from(f.bit7),
+        ],
+        Reading::Number(_) => [3, 0, 0, 0, 0, 0, 0, 0, 0],
+        Reading::Time(t) => [4, t.spacecraft, t.instant, 0, 0, 0, 0, 0, 0],
+        Reading::Fill => [5, 0, 0, 0, 0, 0, 0, 0, 0],
+    }
 }

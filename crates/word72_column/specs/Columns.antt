@@ -1,13 +1,14 @@
 -- The column of a major frame and its kind (01, "Word 72 and its items": gathering, kind; 02, request 4; DFCB tables 12 and 14).
 -- Definitions only.
 use Rattle.std.specs.Prelude.{Bool, true, cond, not, ◌&&◌, ◌||◌, List, [], ◌∷◌, ℕ, zero, suc, ◌+◌, ◌*◌, ◌-◌, eqb, length, get_or, take, drop}
+use Rattle.std.specs.Prelude.{Result, Ok, Err}
 use Rattle.base.specs.Format.{minor_frame, major_frame}
-use Rattle.base.specs.Refusal.{Line, ◌when◌, answered}
+use Rattle.base.specs.declared.refusal.Refusal.{Refusal}
+use Rattle.base.specs.declared.refusal.Refusal.TheVariants.{WrongLength, NoSuchKind, YearOutsideSpan}
+use Rattle.base.specs.Refusals.{Line, ◌when◌, answered}
 use Rattle.time_code.specs.Calendar.{in_span}
 use Rattle.time_code.specs.Fields.{is_time}
 use Rattle.word72_items.specs.ItemTable.{places}
-use Rattle.word72_column.specs.declared.ColumnKind.{ColumnKind}
-use Rattle.word72_column.specs.declared.ColumnKind.TheVariants.{Kind, Refused}
 
 -- ---- gathering
 
@@ -25,7 +26,7 @@ unfoldable pub gathered : List ℕ → List ℕ
 gathered area = values (word72 area) 0 places
 
 abbrev pub gather_lines : List ℕ → List ℕ → List Line
-gather_lines area column = 2 when not (eqb (length area) major_frame) ∷ 2 when not (eqb (length column) places) ∷ []
+gather_lines area column = WrongLength when not (eqb (length area) major_frame) ∷ WrongLength when not (eqb (length column) places) ∷ []
 
 -- the lent column afterwards
 abbrev pub gather_after : List ℕ → List ℕ → List ℕ
@@ -58,19 +59,10 @@ abbrev pub kind_of : List ℕ → ℕ
 kind_of column = cond (bears 1 column) 1 (cond (bears 2 column) 2 (cond (bears 3 column) 3 0))
 
 abbrev pub kind_lines : ℕ → List ℕ → List Line
-kind_lines y column = 2 when not (eqb (length column) places) ∷ 13 when not (in_span y) ∷ 6 when not (has_kind y column) ∷ []
+kind_lines y column = WrongLength when not (eqb (length column) places) ∷ YearOutsideSpan when not (in_span y) ∷ NoSuchKind when not (has_kind y column) ∷ []
 
-unfoldable pub column_kind : ℕ → List ℕ → ColumnKind
-column_kind y column = answered Refused (kind_lines y column) (Kind (kind_of column))
-
--- the papers' number in each case of the answer, 0 for none; and the kind, none where it is refused
-abbrev pub number_of : ColumnKind → ℕ
-number_of (Kind k) = 0
-number_of (Refused n) = n
-
-abbrev pub kinds_of : ColumnKind → List ℕ
-kinds_of (Kind k) = k ∷ []
-kinds_of (Refused n) = []
+unfoldable pub column_kind : ℕ → List ℕ → Result ℕ Refusal
+column_kind y column = answered Err (kind_lines y column) (Ok (kind_of column))
 
 -- ---- what the code asks of the bytes at places 96 to 103
 

@@ -3,12 +3,14 @@
 #![tactic(auto)]
 
 ghost use Rattle.std.specs.Prelude.{◌≡◌, true, length};
+ghost use Rattle.base.specs.Refusals.{permitted, number_of};
 ghost use Rattle.time_code.specs.Calendar.{in_span};
 ghost use Rattle.time_code.specs.Fields.{is_time};
-ghost use Rattle.word72_column.specs.Columns.{gathered, all_hold, identifier_of};
+ghost use Rattle.word72_column.specs.Columns.{gathered, gather_lines, all_hold, identifier_of};
 ghost use Rattle.word72_column.specs.Promise.{GatherPromise, KindPromise};
 
-use base::{format, refusal};
+use base::format;
+use base::refusal::Refusal;
 use time_code::year;
 use word72_items::PLACES;
 
@@ -26,47 +28,41 @@ const TIME_END: usize = 103;
 
 const IDENTIFIER_END: usize = 104;
 
-// A column's kind, or the number of the refusal.
-#[derive(Clone, Copy)]
-pub enum ColumnKind {
-    Kind(u64),
-    Refused(u8),
-}
-
-// Puts word 72 of each minor frame of a major frame into the column and answers 0. Refused 2: the area is not 16,384 bytes, or the
-// column is not 128; then nothing is written.
-pub fn gather(area: &[u8], column: &mut [u8]) -> u8
-    ensures { GatherPromise area.now column.old column.new result }
+// Puts word 72 of each minor frame of a major frame into the column. Refused 2: the area is not 16,384 bytes, or the column is not 128;
+// then nothing is written.
+pub fn gather(area: &[u8], column: &mut [u8]) -> Result<(), Refusal>
+    ensures answer { result ≡ permitted (gather_lines area.now column.old) }
+    ensures promise { GatherPromise area.now column.old column.new (number_of result) }
 {
     if area.len() != format::MAJOR_FRAME {
-        return refusal::WRONG_LENGTH;
+        return Err(Refusal::WrongLength);
     }
     if column.len() != PLACES {
-        return refusal::WRONG_LENGTH;
+        return Err(Refusal::WrongLength);
     }
     put_words(area, column);
-    0
+    Ok(())
 }
 
 // The kind of a column recorded in a year: the identifier that it bears, or 0 where it has a time code of that year. Refused 2: not 128
 // bytes. Refused 13: the year is outside 1999 to 2099. Refused 6: neither.
-pub fn kind(year: u64, column: &[u8]) -> ColumnKind
+pub fn kind(year: u64, column: &[u8]) -> Result<u64, Refusal>
     ensures { KindPromise year column.now result }
 {
     if column.len() != PLACES {
-        return ColumnKind::Refused(refusal::WRONG_LENGTH);
+        return Err(Refusal::WrongLength);
     }
     if !year::in_span(year) {
-        return ColumnKind::Refused(refusal::YEAR_OUTSIDE_SPAN);
+        return Err(Refusal::YearOutsideSpan);
     }
     let identifier = identifier(&column[MARK..IDENTIFIER_END]);
     if identifier != 0 {
-        return ColumnKind::Kind(identifier);
+        return Ok(identifier);
     }
     if is_time(year, &column[MARK..TIME_END]) {
-        return ColumnKind::Kind(0);
+        return Ok(0);
     }
-    ColumnKind::Refused(refusal::NO_SUCH_KIND)
+    Err(Refusal::NoSuchKind)
 }
 
 // Word 72 of each minor frame, found by steps (paper 02, request 3).
@@ -74,29 +70,19 @@ fn put_words(area: &[u8], column: &mut [u8])
     requires { (length area.now ≡ 16384) × (length column.old ≡ 128) }
     ensures { column.new ≡ gathered area.now }
 {
-    let mut at = WORD;
-    let mut frame = 0;
-    while frame < PLACES {
-        column[frame] = area[at];
-        at += STEP;
-        frame += 1;
+    for frame in 0..PLACES {
+        column[frame] = area[STEP * frame + WORD];
     }
 }
 
 fn all_hold(bytes: &[u8], b: u8) -> bool
     ensures { result ≡ all_hold b bytes.now }
 {
-    let mut i = 0;
-    while i < bytes.len() {
-        if bytes[i] != b {
-            return false;
-        }
-        i += 1;
-    }
-    true
+    bytes.iter().all(|&byte| byte == b)
 }
 
 // The identifier 1, 2 or 3 that all of the bytes hold; 0 where there is none.
+#[tactic(auto, unfolding(crate::specs::Columns::identifier_of))]
 fn identifier(bytes: &[u8]) -> u64
     ensures { result ≡ identifier_of bytes.now }
 {
@@ -117,8 +103,5 @@ fn is_time(year: u64, bytes: &[u8]) -> bool
     requires { (length bytes.now ≡ 7) × (in_span year ≡ true) }
     ensures { result ≡ is_time year bytes.now }
 {
-    match time_code::decode(year, bytes) {
-        Ok(_) => true,
-        Err(_) => false,
-    }
+    time_code::decode(year, bytes).is_ok()
 }

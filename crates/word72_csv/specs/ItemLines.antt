@@ -1,15 +1,12 @@
 -- The line of an item of word 72. Definitions only.
-use Rattle.std.specs.Prelude.{List, [], ◌++◌, ℕ, zero, suc}
-use Rattle.word72_items.specs.declared.Description.{Description}
-use Rattle.word72_items.specs.declared.Description.TheVariants.{Found, Refused}
+use Rattle.std.specs.Prelude.{List, [], ◌++◌, ℕ, zero, suc, Result, Ok, Err}
+use Rattle.std.specs.Result.{result_unwrap_or}
+use Rattle.base.specs.declared.refusal.Refusal.{Refusal}
+use Rattle.base.specs.Refusals.{number}
 use Rattle.word72_items.specs.declared.Form.{Form}
 use Rattle.word72_items.specs.declared.Form.TheVariants.{Count, TwelveBit, Flags, Number, Time, Fill}
 use Rattle.word72_items.specs.declared.Item.{Item}
-use Rattle.word72_items.specs.declared.ItemCount.{ItemCount}
-use Rattle.word72_items.specs.declared.ItemCount.TheVariants as item_count
 use Rattle.word72_items.specs.Answers.{described, counted}
-use Rattle.word72_column.specs.declared.ColumnKind.{ColumnKind}
-use Rattle.word72_column.specs.declared.ColumnKind.TheVariants as column-kind
 use Rattle.word72_column.specs.Columns.{column_kind}
 use Rattle.subcom.specs.Parts.{part_of}
 use Rattle.subcom.specs.Readings.{reading}
@@ -50,15 +47,15 @@ form_line Fill = 5
 
 -- a frame that has no items
 abbrev pub refused_frame : ℕ → ℕ → List ℕ
-refused_frame frame number = decimal frame ++ ascii ",,,,,," ++ refused_text number
+refused_frame frame n = decimal frame ++ ascii ",,,,,," ++ refused_text n
 
-abbrev pub line_for : ℕ → ℕ → List ℕ → ℕ → ℕ → Description → List ℕ
-line_for year frame column kind item (Found i) =
+abbrev pub line_for : ℕ → ℕ → List ℕ → ℕ → ℕ → Result Item Refusal → List ℕ
+line_for year frame column kind item (Ok i) =
     place_text frame kind item i
     ++ form_text i.form
     ++ csv_field (description kind item)
     ++ reading_text year (reading year column kind item) (part_of column kind item)
-line_for year frame column kind item (Refused number) = refused_frame frame number
+line_for year frame column kind item (Err r) = refused_frame frame (number r)
 
 abbrev pub item_line : ℕ → ℕ → List ℕ → ℕ → ℕ → List ℕ
 item_line year frame column kind item = line_for year frame column kind item (described kind item)
@@ -68,15 +65,10 @@ unfoldable pub item_lines : ℕ → ℕ → List ℕ → ℕ → ℕ → List �
 item_lines year frame column kind zero = []
 item_lines year frame column kind (suc n) = item_lines year frame column kind n ++ item_line year frame column kind n
 
--- how many items a kind has, none where there is no such kind
-abbrev pub count_in : ItemCount → ℕ
-count_in (item_count.Items n) = n
-count_in (item_count.Refused number) = 0
-
--- all items of a frame's column, or its refusal
-abbrev pub kind_text : ℕ → ℕ → List ℕ → ColumnKind → List ℕ
-kind_text year frame column (column-kind.Kind kind) = item_lines year frame column kind (count_in (counted kind))
-kind_text year frame column (column-kind.Refused number) = refused_frame frame number
+-- all items of a frame's column, none of a kind that is none; or its refusal
+abbrev pub kind_text : ℕ → ℕ → List ℕ → Result ℕ Refusal → List ℕ
+kind_text year frame column (Ok kind) = item_lines year frame column kind (result_unwrap_or (counted kind) 0)
+kind_text year frame column (Err r) = refused_frame frame (number r)
 
 abbrev pub frame_text : ℕ → ℕ → List ℕ → List ℕ
 frame_text year frame column = kind_text year frame column (column_kind year column)

@@ -1,12 +1,14 @@
 -- What an item reads as in fields of a line: value, spacecraft, time, refusal and its meaning, each behind a comma, up to the line's end.
 -- Definitions only.
-use Rattle.std.specs.Prelude.{Bool, cond, List, [], ◌∷◌, ◌++◌, ℕ, ◌/◌, ◌%◌, Float}
+use Rattle.std.specs.Prelude.{Bool, cond, List, [], ◌∷◌, ◌++◌, ℕ, ◌/◌, ◌%◌, Float, Result, Ok, Err}
+use Rattle.base.specs.declared.refusal.Refusal.{Refusal}
+use Rattle.base.specs.Refusals.{number}
 use Rattle.base.specs.Lists.{concat_map}
 use Rattle.io.specs.Digits.{hex_digit_ascii}
 use Rattle.time_code.specs.declared.TimeCode.{TimeCode}
 use Rattle.word72_reading.specs.declared.EightFlags.{EightFlags}
 use Rattle.word72_reading.specs.declared.Reading.{Reading}
-use Rattle.word72_reading.specs.declared.Reading.TheVariants.{Count, Flags, Number, Time, Fill, Refused}
+use Rattle.word72_reading.specs.declared.Reading.TheVariants.{Count, Flags, Number, Time, Fill}
 use Rattle.command.specs.Text.{ascii, decimal}
 use Rattle.command.specs.Words.{refusal_words}
 use Rattle.csv_fields.specs.Fields.{number_field}
@@ -50,12 +52,12 @@ abbrev pub fill_text : List ℕ → List ℕ
 fill_text bytes = ascii ",x" ++ hex_text bytes ++ no_more
 
 abbrev pub refused_text : ℕ → List ℕ
-refused_text number = (ascii ",,,," ++ decimal number) ++ ascii ",\"" ++ refusal_words number ++ ascii "\"\n"
+refused_text n = (ascii ",,,," ++ decimal n) ++ ascii ",\"" ++ refusal_words n ++ ascii "\"\n"
 
-abbrev pub reading_text : ℕ → Reading → List ℕ → List ℕ
-reading_text year (Count n) bytes = count_text n
-reading_text year (Flags f) bytes = flags_text f
-reading_text year (Number x) bytes = number_text x
-reading_text year (Time t) bytes = time_text year t
-reading_text year Fill bytes = fill_text bytes
-reading_text year (Refused number) bytes = refused_text number
+abbrev pub reading_text : ℕ → Result Reading Refusal → List ℕ → List ℕ
+reading_text year (Ok (Count n)) bytes = count_text n
+reading_text year (Ok (Flags f)) bytes = flags_text f
+reading_text year (Ok (Number x)) bytes = number_text x
+reading_text year (Ok (Time t)) bytes = time_text year t
+reading_text year (Ok Fill) bytes = fill_text bytes
+reading_text year (Err r) bytes = refused_text (number r)

@@ -5,18 +5,22 @@
 mod value;
 
 ghost use Rattle.std.specs.Prelude.{◌≡◌};
+ghost use Rattle.std.specs.Result.{result_unwrap_or};
+ghost use Rattle.base.specs.Refusals.{number};
 ghost use Rattle.word72_items.specs.Answers.{counted};
 ghost use Rattle.command.specs.Text.{Adds};
-ghost use Rattle.word72_csv.specs.ItemLines.{frame_text, item_lines, count_in, item_line, place_text, form_text, form_line, refused_frame};
+ghost use Rattle.word72_csv.specs.ItemLines.{frame_text, item_lines, item_line, place_text, form_text, form_line, refused_frame};
 
+use base::refusal::Refusal;
 use command::{put, put_number};
 use csv_fields::put_number_field;
-use subcom::{ColumnKind, Description, Form, Item, ItemCount};
+use subcom::{Form, Item};
 
 // The names of the fields.
 pub const HEADER: [u8; 90] =
     *b"frame,kind,item,first,length,form,description,value,spacecraft,time,refusal,refusal_means\n";
 
+// The form's words, by its number.
 const FORMS: [u8; 54] = *b"\
 ,count,
 ,12-bit count,
@@ -32,37 +36,21 @@ pub fn put_frame(out: &mut [u8], year: u64, frame: u64, column: &[u8]) -> usize
     ensures { Adds out.old 0 (frame_text year frame column.now) out.new result }
 {
     match subcom::kind(year, column) {
-        ColumnKind::Kind(kind) => {
-            return put_items(out, year, frame, column, kind);
-        }
-        ColumnKind::Refused(number) => {
-            return put_refused_frame(out, 0, frame, number);
-        }
+        Ok(kind) => put_items(out, year, frame, column, kind),
+        Err(refusal) => put_refused_frame(out, 0, frame, refusal),
     }
 }
 
-// The items of a kind, in order.
+// The items of a kind, in order; none where there is no such kind.
 fn put_items(out: &mut [u8], year: u64, frame: u64, column: &[u8], kind: u64) -> usize
-    ensures { Adds out.old 0 (item_lines year frame column.now kind (count_in (counted kind))) out.new result }
+    ensures { Adds out.old 0 (item_lines year frame column.now kind (result_unwrap_or (counted kind) 0)) out.new result }
 {
-    let count = count_of(kind);
+    let count = subcom::item_count(kind).unwrap_or(0);
     let mut end = 0;
-    let mut item: u64 = 0;
-    while item < count {
+    for item in 0..count {
         end = put_item(&mut *out, end, year, frame, column, kind, item);
-        item += 1;
     }
     end
-}
-
-// How many items a kind has; none where there is no such kind.
-fn count_of(kind: u64) -> u64
-    ensures { result ≡ count_in (counted kind) }
-{
-    match subcom::item_count(kind) {
-        ItemCount::Items(n) => n,
-        ItemCount::Refused(_) => 0,
-    }
 }
 
 // The line of an item; of a kind or an item that is none it is that of a refused frame.
@@ -78,33 +66,25 @@ fn put_item(
     ensures { Adds out.old at (item_line year frame column.now kind item) out.new result }
 {
     match subcom::describe(kind, item) {
-        Description::Found(found) => {
-            let form = found.form;
+        Ok(found) => {
             let placed = put_place(&mut *out, at, frame, kind, item, found);
-            let formed = put_form(&mut *out, placed, form);
+            let formed = put_form(&mut *out, placed, found.form);
             let described = word72_descriptions::put_description(&mut *out, formed, kind, item);
             let reading = subcom::read(year, column, kind, item);
-            return value::put_reading(
-                out,
-                described,
-                year,
-                reading,
-                subcom::part(column, kind, item),
-            );
+            let bytes = subcom::part(column, kind, item).unwrap_or(&column[..0]);
+            value::put_reading(out, described, year, reading, bytes)
         }
-        Description::Refused(number) => {
-            return put_refused_frame(out, at, frame, number);
-        }
+        Err(refusal) => put_refused_frame(out, at, frame, refusal),
     }
 }
 
 // The line of a frame that has no items, with the refusal of its kind.
-fn put_refused_frame(out: &mut [u8], at: usize, frame: u64, number: u8) -> usize
-    ensures { Adds out.old at (refused_frame frame number) out.new result }
+fn put_refused_frame(out: &mut [u8], at: usize, frame: u64, refusal: Refusal) -> usize
+    ensures { Adds out.old at (refused_frame frame (number refusal)) out.new result }
 {
     let counted = put_number(&mut *out, at, frame);
     let none = put(&mut *out, counted, b",,,,,,");
-    value::put_refused(out, none, number)
+    value::put_refused(out, none, refusal)
 }
 
 // Where an item lies.
@@ -126,16 +106,9 @@ fn put_form(out: &mut [u8], at: usize, form: Form) -> usize
     put(out, at, command::line(table, form_line(form)))
 }
 
-// The line of a form's word.
+// The line of a form's word, which is its number.
 fn form_line(form: Form) -> usize
     ensures { result ≡ form_line form }
 {
-    match form {
-        Form::Count => 0,
-        Form::TwelveBit => 1,
-        Form::Flags => 2,
-        Form::Number => 3,
-        Form::Time => 4,
-        Form::Fill => 5,
-    }
+    form as usize
 }

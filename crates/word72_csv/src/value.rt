@@ -1,10 +1,12 @@
 // What an item reads as, and the rest of its line.
 ghost use Rattle.std.specs.Prelude.{◌≡◌, ◌<◌};
+ghost use Rattle.base.specs.Refusals.{number};
 ghost use Rattle.io.specs.Digits.{hex_digit_ascii};
 ghost use Rattle.command.specs.Text.{Adds};
 ghost use Rattle.word72_csv.specs.Values.{reading_text, count_text, flags_text, number_text, time_text, fill_text, refused_text};
 ghost use Rattle.word72_csv.specs.Values.{no_more, hex_text, hex_byte, bit_glyph};
 
+use base::refusal::Refusal;
 use command::{put, put_byte, put_field, put_words};
 use csv_fields::put_number_field;
 use instant_text::put_clock;
@@ -15,18 +17,18 @@ pub(crate) fn put_reading(
     out: &mut [u8],
     at: usize,
     year: u64,
-    reading: Reading,
+    reading: Result<Reading, Refusal>,
     bytes: &[u8],
 ) -> usize
     ensures { Adds out.old at (reading_text year reading bytes.now) out.new result }
 {
     match reading {
-        Reading::Count(n) => put_count(out, at, n),
-        Reading::Flags(f) => put_flags(out, at, f),
-        Reading::Number(x) => put_real(out, at, x),
-        Reading::Time(t) => put_time(out, at, year, t),
-        Reading::Fill => put_fill(out, at, bytes),
-        Reading::Refused(number) => put_refused(out, at, number),
+        Ok(Reading::Count(n)) => put_count(out, at, n),
+        Ok(Reading::Flags(f)) => put_flags(out, at, f),
+        Ok(Reading::Number(x)) => put_real(out, at, x),
+        Ok(Reading::Time(t)) => put_time(out, at, year, t),
+        Ok(Reading::Fill) => put_fill(out, at, bytes),
+        Err(refusal) => put_refused(out, at, refusal),
     }
 }
 
@@ -67,10 +69,7 @@ fn put_flags(out: &mut [u8], at: usize, f: EightFlags) -> usize
 fn bit_glyph(bit: bool) -> u8
     ensures { result ≡ bit_glyph bit }
 {
-    if bit {
-        return b'1';
-    }
-    b'0'
+    if bit { b'1' } else { b'0' }
 }
 
 fn put_real(out: &mut [u8], at: usize, x: f64) -> usize
@@ -101,10 +100,11 @@ fn put_fill(out: &mut [u8], at: usize, bytes: &[u8]) -> usize
 }
 
 // No value, and the refusal.
-pub(crate) fn put_refused(out: &mut [u8], at: usize, number: u8) -> usize
-    ensures { Adds out.old at (refused_text number) out.new result }
+pub(crate) fn put_refused(out: &mut [u8], at: usize, refusal: Refusal) -> usize
+    ensures { Adds out.old at (refused_text (number refusal)) out.new result }
 {
-    let refused = put_field(&mut *out, at, b",,,,", number as u64);
+    let number = refusal.number();
+    let refused = put_field(&mut *out, at, b",,,,", u64::from(number));
     let quoted = put(&mut *out, refused, b",\"");
     let told = put_words(&mut *out, quoted, number);
     put(out, told, b"\"\n")
@@ -114,10 +114,8 @@ fn put_hex(out: &mut [u8], at: usize, bytes: &[u8]) -> usize
     ensures { Adds out.old at (hex_text bytes.now) out.new result }
 {
     let mut end = put(&mut *out, at, b"");
-    let mut i: usize = 0;
-    while i < bytes.len() {
-        end = put_hex_byte(&mut *out, end, bytes[i]);
-        i += 1;
+    for &b in bytes {
+        end = put_hex_byte(&mut *out, end, b);
     }
     end
 }
@@ -134,7 +132,8 @@ fn hex_glyph(d: u8) -> u8
     ensures { result ≡ hex_digit_ascii d }
 {
     if d < 10 {
-        return b'0' + d;
+        b'0' + d
+    } else {
+        b'a' + (d - 10)
     }
-    b'a' + (d - 10)
 }

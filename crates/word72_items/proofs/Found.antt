@@ -1,15 +1,19 @@
 -- The search of the item table, and what it finds by the table's rule: an item's first place, the place past it, and its form; and the
 -- last number. Assumes nothing.
-use mathlib.Core.Path.{◌≡◌, ap, sym, ◌∙◌}
-use Prim.Native.Nat.{ℕ, ◌+◌, ◌-◌, ◌≤◌, ◌<◌}
-use native.Mathlib.Omega.{arith}
+use Rattle.std.proofs.Common.{◌≡◌, ap, sym, ◌∙◌, true, false, List, length, get_or, take, drop, length-take, length-drop, arith}
+use Rattle.std.proofs.Common.{ℕ, ◌+◌, ◌*◌, ◌-◌, ◌≤◌, ◌<◌}
+use Rattle.std.proofs.lemmas.List.{get_or-take, get_or-drop}
+use Rattle.std.proofs.lemmas.Grind.{get_or_default_zero}
+use Rattle.std.proofs.lemmas.List.Sorted.{IsPartitionedBy-ltb, IsNonDecreasingBy-from_default}
+use Rattle.std.specs.List.Sorted.{IsPartitionedBy, IsPartitionPoint}
+use borrow.Author.Tests.{ltb-true, ltb-false}
 use lib.Dec.{T, leb, ltb, leb→le, le→leb, ltb→lt, lt→ltb}
 use lib.Ieee.Fits.{and_i, and_l, and_r}
 use Rattle.word72_items.specs.declared.Form.{Form}
 use Rattle.word72_items.specs.declared.Item.{Item}
-use Rattle.word72_items.specs.ItemTable.{count_of_items, item_of, entry, holds}
+use Rattle.word72_items.specs.ItemTable.{count_of_items, item_of, items, entry, holds}
 use Rattle.word72_items.specs.CodeTables.{Sought, form_at}
-use Rattle.word72_items.proofs.Rule.{item_sound, lies, alone, form_at_lem, up}
+use Rattle.word72_items.proofs.Rule.{rule, item_sound, lies, alone, form_at_lem, up}
 
 -- the places of an item
 held : (i : Item) (p : ℕ) → i.first ≤ p → p < i.first + i.length → T (holds p i)
@@ -23,26 +27,37 @@ before-end i p t = ltb→lt p (i.first + i.length) (and_r (leb i.first p) (ltb p
 
 -- ---- the search
 
--- the places below low have smaller numbers than n, and those from high on have not
-pub record Halved (k n low high : ℕ) : Type 0 where
-  pub order : low ≤ high
-  pub within : high ≤ 128
-  pub before : (p : ℕ) → p < low → entry k p < n
-  pub after : (p : ℕ) → high ≤ p → p < 128 → n ≤ entry k p
+-- the entries of a kind, at its places
+abbrev pub row : ℕ → List ℕ
+row k = take 128 (drop (128 * k) items)
 
-module _ (k n : ℕ) where
-  pub at-start : Halved k n 0 128
-  at-start = record { order = omega arith; within = omega arith; before = λ p h. absurd (omega arith); after = λ p a b. absurd (omega arith) }
+module _ (k : ℕ) (K : k < 4) where
+  row-length : length (row k) ≡ 128
+  row-length = simp (length-take, length-drop) (omega (arith, rule.covers))
 
-  pub at-end : (low high : ℕ) → Halved k n low high → high ≤ low → Sought k n low
-  at-end low high h e = record { within = omega arith; before = h.before; after = λ p a b. h.after p (omega arith) b }
+  row-at : (p d : ℕ) → p < 128 → get_or (row k) p d ≡ entry k p
+  row-at p d P =
+      get_or-take 128 (drop (128 * k) items) p d P
+      ∙ get_or-drop (128 * k) items p d
+      ∙ get_or_default_zero items (128 * k + p) d (omega (arith, rule.covers))
 
-  module _ (low high m : ℕ) (K : k < 4) (h : Halved k n low high) (from : low ≤ m) (to : m < high) where
-    pub upper : entry k m < n → Halved k n (m + 1) high
-    upper e = record { order = omega arith; within = h.within; before = λ p b. omega (arith, up k p m K (omega arith) (omega arith)); after = h.after }
+  -- numbers never fall, so that those below n come first
+  pub parted : (n : ℕ) → IsPartitionedBy (λ x. ltb x n) (row k)
+  parted n = IsPartitionedBy-ltb (λ x. x) (row k) n (IsNonDecreasingBy-from_default (λ x. x) (row k) 0 rises)
+    where
+      rises : (i j : ℕ) → i ≤ j → j < length (row k) → get_or (row k) i 0 ≤ get_or (row k) j 0
+      rises i j ij J =
+          let J' : j < 128 = omega (arith, row-length) in
+          rw (row-at i 0 (omega arith), row-at j 0 J') (up k i j K ij J')
 
-    pub lower : n ≤ entry k m → Halved k n low m
-    lower e = record { order = from; within = omega arith; before = h.before; after = λ p a b. omega (arith, up k m p K a b) }
+  -- where they end is the place that is sought
+  pub found : (n r : ℕ) → r ≤ length (row k) → IsPartitionPoint (λ x. ltb x n ≡ true) (λ x. ltb x n ≡ false) (row k) r → Sought k n r
+  found n r h point =
+      record {
+        within = omega (arith, row-length);
+        before = λ p b. ltb-true (entry k p) n (rw (row-at p 0 (omega (arith, row-length))) at (point.0 p 0 (omega arith) b));
+        after = λ p a b. ltb-false (entry k p) n (rw (row-at p 0 b) at (point.1 p 0 a (omega (arith, row-length))));
+      }
 
 -- ---- what it finds
 

@@ -8,7 +8,7 @@ mod tables;
 ghost use Rattle.std.specs.Prelude.{◌≡◌};
 ghost use Rattle.word72_items.specs.Promise.{CountPromise, DescribePromise};
 
-use base::refusal;
+use base::refusal::Refusal;
 
 // The places of a column, one for each minor frame of a major frame.
 pub const PLACES: usize = 128;
@@ -16,68 +16,54 @@ pub const PLACES: usize = 128;
 // The last of the kinds 0 to 3.
 const LAST_KIND: u64 = 3;
 
-// How an item's bytes are read.
-#[derive(Clone, Copy)]
+// How an item's bytes are read. As a number it is what include/pcd.h gives the form.
+#[derive(Clone, Copy, Debug, PartialEq, Eq)]
 pub enum Form {
-    Count,
-    TwelveBit,
-    Flags,
-    Number,
-    Time,
-    Fill,
+    Count = 0,
+    TwelveBit = 1,
+    Flags = 2,
+    Number = 3,
+    Time = 4,
+    Fill = 5,
 }
 
 // What an item is: how it is read, its first place in the column, and how many places it has.
-#[derive(Clone, Copy)]
+#[derive(Clone, Copy, Debug, PartialEq, Eq)]
 pub struct Item {
     pub form: Form,
     pub first: usize,
     pub length: usize,
 }
 
-// An item, or the number of the refusal.
-#[derive(Clone, Copy)]
-pub enum Description {
-    Found(Item),
-    Refused(u8),
-}
-
-// How many items a kind has, or the number of the refusal.
-#[derive(Clone, Copy)]
-pub enum ItemCount {
-    Items(u64),
-    Refused(u8),
-}
-
 // How many items a kind has. Refused 6: the kind is above 3.
-pub fn item_count(kind: u64) -> ItemCount
+pub fn item_count(kind: u64) -> Result<u64, Refusal>
     ensures { CountPromise kind result }
 {
     if LAST_KIND < kind {
-        return ItemCount::Refused(refusal::NO_SUCH_KIND);
+        return Err(Refusal::NoSuchKind);
     }
     let table = &tables::ITEMS;
-    ItemCount::Items(search::last_number(table, kind as usize) + 1)
+    Ok(search::last_number(table, kind as usize) + 1)
 }
 
 // What an item is: its form, its first place and its length. Refused 6: the kind is above 3. Refused 7: it has no such item.
-pub fn describe(kind: u64, item: u64) -> Description
+pub fn describe(kind: u64, item: u64) -> Result<Item, Refusal>
     ensures { DescribePromise kind item result }
 {
     if LAST_KIND < kind {
-        return Description::Refused(refusal::NO_SUCH_KIND);
+        return Err(Refusal::NoSuchKind);
     }
     let row = kind as usize;
     let table = &tables::ITEMS;
     let first = search::seek(table, row, item);
     if first == PLACES {
-        return Description::Refused(refusal::NO_SUCH_ITEM);
+        return Err(Refusal::NoSuchItem);
     }
     let end = search::seek(table, row, item + 1);
     let form = search::form_at(&tables::FORMS, row, first);
-    Description::Found(Item {
-        form: form,
-        first: first,
+    Ok(Item {
+        form,
+        first,
         length: end - first,
     })
 }

@@ -1,33 +1,30 @@
--- The code's answer: the papers' number and 01's values in each of its cases, and the case that carries a value. Definitions only.
-use Rattle.std.specs.Prelude.{Bool, false, not, List, [], ◌∷◌, ℕ, length, get_or}
-use Rattle.base.specs.Refusal.{Line, ◌when◌, answered}
+-- The code's answer: 01's value in each of its cases, and the case that carries a value. Definitions only.
+use Rattle.std.specs.Prelude.{Bool, false, not, List, [], ◌∷◌, ℕ, length, get_or, Result, Ok, Err}
+use Rattle.base.specs.declared.refusal.Refusal.{Refusal}
+use Rattle.base.specs.declared.refusal.Refusal.TheVariants.{WrongLength, YearOutsideSpan}
+use Rattle.base.specs.Refusals.{Line, ◌when◌, answered}
 use Rattle.time_code.specs.Calendar.{in_span}
 use Rattle.word72_items.specs.declared.Form.{Form}
 use Rattle.word72_items.specs.ItemTable.{suits}
 use Rattle.word72_reading.specs.declared.EightFlags.{EightFlags}
 use Rattle.word72_reading.specs.declared.Reading.{Reading}
-use Rattle.word72_reading.specs.declared.Reading.TheVariants.{Count, Flags, Number, Time, Fill, Refused}
+use Rattle.word72_reading.specs.declared.Reading.TheVariants.{Count, Flags, Number, Time, Fill}
 use Rattle.word72_reading.specs.Values.{Value, count, flags, number, time, fill, lines, value_of}
-
--- the papers' number, 0 for none; and what is given, none where it is refused
-abbrev pub number_of : Reading → ℕ
-number_of (Count n) = 0
-number_of (Flags f) = 0
-number_of (Number v) = 0
-number_of (Time t) = 0
-number_of Fill = 0
-number_of (Refused n) = n
 
 abbrev pub bits_in : EightFlags → List Bool
 bits_in f = f.bit0 ∷ f.bit1 ∷ f.bit2 ∷ f.bit3 ∷ f.bit4 ∷ f.bit5 ∷ f.bit6 ∷ f.bit7 ∷ []
 
-abbrev pub values_of : Reading → List Value
-values_of (Count n) = count n ∷ []
-values_of (Flags f) = flags (bits_in f) ∷ []
-values_of (Number v) = number v ∷ []
-values_of (Time t) = time t.spacecraft t.instant ∷ []
-values_of Fill = fill ∷ []
-values_of (Refused n) = []
+abbrev pub value_in : Reading → Value
+value_in (Count n) = count n
+value_in (Flags f) = flags (bits_in f)
+value_in (Number v) = number v
+value_in (Time t) = time t.spacecraft t.instant
+value_in Fill = fill
+
+-- what is given, none where it is refused
+abbrev pub values_of : Result Reading Refusal → List Value
+values_of (Ok r) = value_in r ∷ []
+values_of (Err n) = []
 
 -- ---- the case that carries a value
 
@@ -54,13 +51,13 @@ reading_of fill = Fill
 -- ---- bytes of the year y, read by a form
 
 -- where they are as many as the form asks for, and the year is in the span
-abbrev pub suited_reading : ℕ → Form → List ℕ → Reading
-suited_reading y f bs = answered Refused (lines y f bs) (reading_of (value_of f bs))
+abbrev pub suited_reading : ℕ → Form → List ℕ → Result Reading Refusal
+suited_reading y f bs = answered Err (lines y f bs) (Ok (reading_of (value_of f bs)))
 
 -- the papers' lines that concern it: 2 where the form asks for another number of bytes; 13, whatever the form; then 8, 9 or 10 as the form
 -- has it
 abbrev pub read_as_lines : ℕ → Form → List ℕ → List Line
-read_as_lines y f bs = 2 when not (suits f (length bs)) ∷ 13 when not (in_span y) ∷ lines y f bs
+read_as_lines y f bs = WrongLength when not (suits f (length bs)) ∷ YearOutsideSpan when not (in_span y) ∷ lines y f bs
 
-unfoldable pub read_as : ℕ → Form → List ℕ → Reading
-read_as y f bs = answered Refused (read_as_lines y f bs) (reading_of (value_of f bs))
+unfoldable pub read_as : ℕ → Form → List ℕ → Result Reading Refusal
+read_as y f bs = answered Err (read_as_lines y f bs) (Ok (reading_of (value_of f bs)))

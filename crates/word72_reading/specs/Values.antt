@@ -2,7 +2,8 @@
 -- Nothing here speaks of the code's answer; Readings.antt ties its cases to these values. Definitions only.
 use Rattle.std.specs.Prelude.{Bool, cond, not, ◌||◌, List, [], ◌∷◌, ℕ, ◌+◌, ◌-◌, ◌*◌, ◌/◌, ◌%◌, ◌^◌, eqb, leb, Float, length, get_or}
 use Rattle.base.specs.Numbers.{big_endian}
-use Rattle.base.specs.Refusal.{Line, ◌when◌}
+use Rattle.base.specs.declared.refusal.Refusal.TheVariants.{TimeOutOfRange, UpperBitsSet, NotNormalised}
+use Rattle.base.specs.Refusals.{Line, ◌when◌}
 use Rattle.float1750.specs.Word.{is_zero, normalised, value}
 use Rattle.time_code.specs.Fields.{is_time, spacecraft, instant}
 use Rattle.word72_items.specs.declared.Form.{Form}
@@ -25,10 +26,10 @@ bits b = bit b 0 ∷ bit b 1 ∷ bit b 2 ∷ bit b 3 ∷ bit b 4 ∷ bit b 5 ∷
 -- the line of the refusal table that a form has; a time is one of the year y
 abbrev pub lines : ℕ → Form → List ℕ → List Line
 lines y form.Count bs = []
-lines y form.TwelveBit bs = 9 when not (eqb (get_or bs 0 0 / 16) 0) ∷ []
+lines y form.TwelveBit bs = UpperBitsSet when not (eqb (get_or bs 0 0 / 16) 0) ∷ []
 lines y form.Flags bs = []
-lines y form.Number bs = 10 when not (is_zero bs || normalised bs) ∷ []
-lines y form.Time bs = 8 when not (is_time y bs) ∷ []
+lines y form.Number bs = NotNormalised when not (is_zero bs || normalised bs) ∷ []
+lines y form.Time bs = TimeOutOfRange when not (is_time y bs) ∷ []
 lines y form.Fill bs = []
 
 -- what the bytes are where that line does not hold: a number's double is that of the word, and `exact` in Promise.antt says which

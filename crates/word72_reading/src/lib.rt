@@ -1,7 +1,7 @@
 // What the bytes of an item read as, by the item's form (paper 01, "Word 72 and its items"; paper 02, request 4).
 #![tactic(auto)]
 
-ghost use Rattle.std.specs.Prelude.{◌≡◌, true, [], ◌∷◌, length, T};
+ghost use Rattle.std.specs.Prelude.{◌≡◌, true, [], ◌∷◌, length, T, Ok};
 ghost use Rattle.time_code.specs.Calendar.{in_span};
 ghost use Rattle.word72_items.specs.ItemTable.{suits};
 ghost use Rattle.word72_items.specs.declared.Form.TheVariants as form;
@@ -9,7 +9,7 @@ ghost use Rattle.word72_reading.specs.Readings.{flags_of};
 ghost use Rattle.word72_reading.specs.Values.{bits};
 ghost use Rattle.word72_reading.specs.Promise.{ReadAsPromise, SuitedPromise, InAnyYear};
 
-use base::{refusal, wide};
+use base::refusal::Refusal;
 use time_code::{TimeCode, year};
 use word72_items::Form;
 
@@ -17,7 +17,7 @@ use word72_items::Form;
 const LONGEST_COUNT: usize = 8;
 
 // The eight flags of a serial word by the book's bit numbers; bit 0 is the most significant.
-#[derive(Clone, Copy)]
+#[derive(Clone, Copy, Debug, PartialEq, Eq)]
 pub struct EightFlags {
     pub bit0: bool,
     pub bit1: bool,
@@ -29,7 +29,7 @@ pub struct EightFlags {
     pub bit7: bool,
 }
 
-// What an item reads as, or the number of the refusal.
+// What an item reads as.
 #[derive(Clone, Copy)]
 pub enum Reading {
     Count(u64),
@@ -37,20 +37,19 @@ pub enum Reading {
     Number(f64),
     Time(TimeCode),
     Fill,
-    Refused(u8),
 }
 
 // Reads bytes recorded in a year by a form. Refused 2: the form asks for another number of bytes. Refused 13, whatever the form: the year is
 // outside 1999 to 2099. Then 8: the time code is not good in the year, 9: the upper four bits of a 12-bit item are not 0, 10: the number is
 // not normalised.
-pub fn read_as(year: u64, form: Form, bytes: &[u8]) -> Reading
+pub fn read_as(year: u64, form: Form, bytes: &[u8]) -> Result<Reading, Refusal>
     ensures { ReadAsPromise year form bytes.now result }
 {
     if !length_suits(form, bytes.len()) {
-        return Reading::Refused(refusal::WRONG_LENGTH);
+        return Err(Refusal::WrongLength);
     }
     if !year::in_span(year) {
-        return Reading::Refused(refusal::YEAR_OUTSIDE_SPAN);
+        return Err(Refusal::YearOutsideSpan);
     }
     read_suited(year, form, bytes)
 }
@@ -68,23 +67,23 @@ fn length_suits(form: Form, n: usize) -> bool
     }
 }
 
-fn read_suited(year: u64, form: Form, bytes: &[u8]) -> Reading
+fn read_suited(year: u64, form: Form, bytes: &[u8]) -> Result<Reading, Refusal>
     requires { (in_span year ≡ true) × T (suits form (length bytes.now)) }
     ensures { SuitedPromise year form bytes.now result }
 {
     match form {
-        Form::Count => count(bytes),
+        Form::Count => Ok(count(bytes)),
         Form::TwelveBit => twelve_bit(bytes[0], bytes[1]),
-        Form::Flags => Reading::Flags(flags(bytes[0])),
+        Form::Flags => Ok(Reading::Flags(flags(bytes[0]))),
         Form::Number => number(bytes),
         Form::Time => time(year, bytes),
-        Form::Fill => Reading::Fill,
+        Form::Fill => Ok(Reading::Fill),
     }
 }
 
 // A count of up to eight bytes, the first byte highest; longer items read as fill.
 fn count(bytes: &[u8]) -> Reading
-    ensures { InAnyYear form.Count bytes.now result }
+    ensures { InAnyYear form.Count bytes.now (Ok result) }
 {
     if LONGEST_COUNT < bytes.len() {
         return Reading::Fill;
@@ -93,13 +92,13 @@ fn count(bytes: &[u8]) -> Reading
 }
 
 // The low four bits of the first byte, then the second; refused where the upper four are not 0.
-fn twelve_bit(first: u8, second: u8) -> Reading
+fn twelve_bit(first: u8, second: u8) -> Result<Reading, Refusal>
     ensures { InAnyYear form.TwelveBit (first ∷ second ∷ []) result }
 {
     if first / 16 != 0 {
-        return Reading::Refused(refusal::UPPER_BITS_SET);
+        return Err(Refusal::UpperBitsSet);
     }
-    Reading::Count(wide(first) * 256 + wide(second))
+    Ok(Reading::Count(u64::from(first) * 256 + u64::from(second)))
 }
 
 fn flags(b: u8) -> EightFlags
@@ -117,22 +116,16 @@ fn flags(b: u8) -> EightFlags
     }
 }
 
-fn number(bytes: &[u8]) -> Reading
+fn number(bytes: &[u8]) -> Result<Reading, Refusal>
     requires { length bytes.now ≡ 6 }
     ensures { InAnyYear form.Number bytes.now result }
 {
-    match float1750::decode(bytes) {
-        Ok(x) => Reading::Number(x),
-        Err(refusal) => Reading::Refused(refusal.number()),
-    }
+    Ok(Reading::Number(float1750::decode(bytes)?))
 }
 
-fn time(year: u64, bytes: &[u8]) -> Reading
+fn time(year: u64, bytes: &[u8]) -> Result<Reading, Refusal>
     requires { (in_span year ≡ true) × (length bytes.now ≡ 7) }
     ensures { SuitedPromise year form.Time bytes.now result }
 {
-    match time_code::decode(year, bytes) {
-        Ok(t) => Reading::Time(t),
-        Err(refusal) => Reading::Refused(refusal.number()),
-    }
+    Ok(Reading::Time(time_code::decode(year, bytes)?))
 }

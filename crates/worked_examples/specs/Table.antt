@@ -74,7 +74,7 @@ answer_to (writes_number v) = number.encode_refusal v (replicate 6 0) ∷ number
 answer_to (is_double v q) = one (double_is v q) ∷ []
 answer_to (reads_time y w) = number_of (time.decoded y w) ∷ time.values_of (time.decoded y w)
 answer_to (has_fields w) = spacecraft w ∷ day w ∷ hour w ∷ minute w ∷ second w ∷ millisecond w ∷ sixteenth w ∷ []
-answer_to (reads_item y column k n) = item.number_of (reading y column k n) ∷ concat_map value_numbers (item.values_of (reading y column k n))
+answer_to (reads_item y column k n) = number_of (reading y column k n) ∷ concat_map value_numbers (item.values_of (reading y column k n))
 
 pub record Example : Type 0 where
   pub asks : Question

@@ -11,11 +11,11 @@ use Rattle.cycle.proofs.is_kind.Goals.{After-kind}
 -- whatever the kind test answers
 answered : (c : After-kind) → answers_kind c.args.kind c.kind.result ≡ is_kind c.args.year c.args.kind c.args.frame.now
 answered c =
-    let gathered = c.gather.ensures.after ∙ gathers c.args.frame.now (replicate 128 0) c.requires (length-replicate {A = ℕ} 128 0) in
+    let gathered = c.gather.ensures.promise.after ∙ gathers c.args.frame.now (replicate 128 0) c.requires (length-replicate {A = ℕ} 128 0) in
     kind_is _ _ _ _ _ gathered c.kind.ensures.answer
 
-pub returns-in-Kind : goal.returns-in-Kind
-returns-in-Kind c = ap (answers_kind _) (sym c.in-Kind.is) ∙ answered (goal.at.returns-in-Kind c).After-kind
+pub returns-in-Ok : goal.returns-in-Ok
+returns-in-Ok c = ap (answers_kind _) (sym c.in-Ok.is) ∙ answered (goal.at.returns-in-Ok c).After-kind
 
-pub returns-in-Refused : goal.returns-in-Refused
-returns-in-Refused c = ap (answers_kind _) (sym c.in-Refused.is) ∙ answered (goal.at.returns-in-Refused c).After-kind
+pub returns-in-Err : goal.returns-in-Err
+returns-in-Err c = ap (answers_kind _) (sym c.in-Err.is) ∙ answered (goal.at.returns-in-Err c).After-kind

@@ -9,5 +9,5 @@ pub returns : goal.returns
 returns c =
     let body = c.args.body.now in
     let wide = length-replicate {A = ℕ} 128 0 in
-    let is = column-is body c.args.k (replicate 128 0) _ c.requires.0 c.requires.1 wide c.gather.ensures.after in
+    let is = column-is body c.args.k (replicate 128 0) _ c.requires.0 c.requires.1 wide c.gather.ensures.promise.after in
     (is, ap length is ∙ column-length body c.args.k)

@@ -1,19 +1,12 @@
-use mathlib.Core.Path.{sym}
-use native.Mathlib.Omega.{arith}
-use borrow.Author.Count.{below_more}
-use Rattle.word72_column.proofs.Words.{all_true, one-false}
-use borrow.Author.Rules.{rules}
+-- `word72_column::all_hold` meets its contract: the bytes pass the test one by one. Assumes nothing.
+use Rattle.std.proofs.Common.{◌≡◌, rules, tests}
+use Rattle.std.proofs.lemmas.Iterator.{cases_from_all, YieldsList-from_slice}
+use Rattle.word72_column.proofs.Words.{tested}
 use Rattle.word72_column.proofs.all_hold.Goals as goal
-
-pub returns-then-bytes-i : goal.returns-then-bytes-i
-returns-then-bytes-i c =
-    let a = c.args in
-    sym (one-false a.b a.bytes.now c.loop-i.i (omega arith) c.if-bytes-i.true)
-
-pub loop-i-preserved : goal.loop-i-preserved
-loop-i-preserved c = (search rules, below_more _ _ c.loop-i.invariant.1 c.if-bytes-i.false)
 
 pub returns : goal.returns
 returns c =
     let a = c.args in
-    sym (all_true a.b a.bytes.now (λ p l. c.loop-i.invariant.1 p (omega arith)))
+    tested a.b a.bytes.now c.all.result
+    (cases_from_all _ _ _ (λ x. x ≡ a.b) (λ x. x ≡ a.b → ⊥) c.all.ensures.ran (YieldsList-from_slice a.bytes.now cc)
+    (λ x q k. search (rules, tests)) (λ x q k. search (rules, tests)))

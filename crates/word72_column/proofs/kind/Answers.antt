@@ -1,10 +1,7 @@
 -- `word72_column::kind` meets its contract: each way out is one of the promise's five. Assumes nothing.
-use mathlib.Core.Path.{◌≡◌, sym, ◌∙◌}
-use mathlib.Core.Bool.{true}
-use native.Mathlib.Omega.{arith}
+use Rattle.std.proofs.Common.{◌≡◌, true, sym, ◌∙◌, arith}
 use Rattle.time_code.specs.Calendar.{in_span}
 use Rattle.word72_column.proofs.Answers.{kind_refused_2, kind_refused_13, kind_named, kind_timed, kind_refused_6}
-use borrow.Author.Rules.{rules}
 use Rattle.word72_column.proofs.kind.Goals as goal
 use Rattle.word72_column.proofs.kind.Goals.{Else-not-in_span}
 
@@ -17,9 +14,6 @@ returns-then-column-ne-PLACES c =
     let a = c.args in
     kind_refused_2 a.year a.column.now c.if-column-ne-PLACES.true
 
-pub in_span-requires : goal.in_span-requires
-in_span-requires c = tt
-
 pub returns-then-not-in_span : goal.returns-then-not-in_span
 returns-then-not-in_span c =
     let a = c.args in
@@ -29,9 +23,6 @@ pub returns-then-identifier-ne0 : goal.returns-then-identifier-ne0
 returns-then-identifier-ne0 c =
     let a = c.args in
     kind_named a.year a.column.now (omega arith) (spanned (goal.at.returns-then-identifier-ne0 c).Else-not-in_span) _ c.identifier-identifier.ensures c.if-identifier-ne0.true
-
-pub is_time-requires : goal.is_time-requires
-is_time-requires c = (search rules, spanned (goal.at.is_time-requires c).Else-not-in_span)
 
 pub returns-then-is_time : goal.returns-then-is_time
 returns-then-is_time c =

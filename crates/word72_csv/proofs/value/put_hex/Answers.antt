@@ -1,31 +1,10 @@
-use mathlib.Core.Path.{◌∙◌}
-use native.Mathlib.Omega.{arith}
-use lib.Seq.{take_all}
-use Rattle.command.proofs.TextLaws.{adds_append}
+use Rattle.std.proofs.Common.{arith}
 use Rattle.word72_csv.proofs.Laws.{hex_none, hex_one_more}
 use Rattle.word72_csv.proofs.value.put_hex.Goals as goal
 
-pub loop-i-init : goal.loop-i-init
-loop-i-init c = (omega arith, hex_none c.put-end.ensures.counts c.args.bytes.now)
+pub loop-b-init : goal.loop-b-init
+loop-b-init c = hex_none c.put-end.ensures.counts c.args.bytes.now
 
-pub bounds-bytes-i : goal.bounds-bytes-i
-bounds-bytes-i c = omega arith
-
-pub overflow_add-i : goal.overflow_add-i
-overflow_add-i c = omega arith
-
-pub loop-i-smaller : goal.loop-i-smaller
-loop-i-smaller c = omega arith
-
-pub loop-i-preserved : goal.loop-i-preserved
-loop-i-preserved c =
-    let so_far = c.loop-i.invariant.1 in
-    (omega arith, hex_one_more c.args.bytes.now c.loop-i.i c.loop-i-test.true so_far c.put_hex_byte-end.ensures)
-
-pub shape_of-out : goal.shape_of-out
-shape_of-out c = c.loop-i.invariant.1.size_is ∙ c.put-end.ensures.size_is
-
-pub returns : goal.returns
-returns c =
-    let whole = take_all c.loop-i.i c.args.bytes.now c.loop-i-test.false in
-    adds_append c.put-end.ensures (rw whole at c.loop-i.invariant.1)
+pub loop-b-preserved : goal.loop-b-preserved
+loop-b-preserved c =
+    hex_one_more c.args.bytes.now c.loop-b.b-index (omega arith) c.loop-b.invariant c.put_hex_byte-end.ensures

@@ -4,4 +4,6 @@ use Rattle.word72_csv.proofs.value.put_refused.Goals as goal
 
 pub returns : goal.returns
 returns c =
-    adds_append (adds_append (adds_append c.put_field-refused.ensures c.put-quoted.ensures) c.put_words-told.ensures) c.put.ensures
+    let field = rw c.from.ensures at c.put_field-refused.ensures in
+    rw (← c.number-number.ensures)
+    (adds_append (adds_append (adds_append field c.put-quoted.ensures) c.put_words-told.ensures) c.put.ensures)

@@ -12,5 +12,5 @@ use Rattle.word72_items.proofs.search.last_number.Goals as goal
 pub returns : goal.returns
 returns c =
     let k = c.args.kind in
-    let is_last : c.wide.result ≡ entry k 127 = c.wide.ensures ∙ ap (λ (l : List ℕ). get_or l (128 * k + 127) 0) c.requires.1 in
+    let is_last : c.from.result ≡ entry k 127 = c.from.ensures ∙ ap (λ (l : List ℕ). get_or l (128 * k + 127) 0) c.requires.1 in
     (omega (arith, last_number_lem k (omega arith)), omega (arith, last_number_lem k (omega arith), few_items k (omega arith)))
