@@ -5,6 +5,10 @@ use mathlib.Core.List.{List, [], ◌∷◌}
 use Prim.Native.Nat.{ℕ, ◌≤◌, ◌<◌}
 use native.Mathlib.Omega.{arith}
 use borrow.Author.Tests.{ne_eqb}
+use Rattle.std.specs.Prelude.{Result, Ok, Err}
+use Rattle.base.specs.declared.refusal.Refusal.{Refusal}
+use Rattle.base.specs.Refusals.{number, number_of}
+use Rattle.base.proofs.Lines.{positive}
 use Rattle.base.specs.Lists.{one}
 use Rattle.labelling.specs.declared.Tally.{Tally}
 use Rattle.labelling.specs.Votes.{rule_vote}
@@ -42,37 +46,40 @@ module _ (l : Lent) (piece : List ℕ) where
   left-as_lent h = rw (ne_eqb (take_refused l piece) 0 h)
 
   -- the call in place
-  module _ (r : Part) (numbers frame area : List ℕ) (p : InPlace false (call_of l piece) l.numbers r numbers frame area) where
-    refusal-crossed : r.refusal ≡ take_refused l piece
+  module _ (r : Result Part Refusal) (numbers frame area : List ℕ) (p : InPlace false (call_of l piece) l.numbers r numbers frame area) where
+    refusal-crossed : number_of r ≡ take_refused l piece
     unfolding take_refused
     refusal-crossed = go (is_tally l.numbers) refl
       where
-        go : (b : Bool) → is_tally l.numbers ≡ b → r.refusal ≡ take_refused l piece
+        go : (b : Bool) → is_tally l.numbers ≡ b → number_of r ≡ take_refused l piece
         go true e = rw e (p.refusal_is e)
         go false e = rw e (p.no_tally e)
 
-    -- no lock stops it, so that the part is the piece
-    whole : part_of false (call_of l piece) ≡ call_of l piece
-    whole = let c = call_of l piece in rw (up_all (rule_vote c.tally.rule) piece (state_of c.tally) c.area)
+  -- no lock stops it, so that the part is the piece
+  whole : part_of false (call_of l piece) ≡ call_of l piece
+  whole = let c = call_of l piece in rw (up_all (rule_vote c.tally.rule) piece (state_of c.tally) c.area)
 
-    pub accepted-crossed : (complete : ℕ) → complete ≡ one r.complete → r.refusal ≡ 0
-        → TakeCrossed l piece 0 (lent numbers frame area (r.taken ∷ complete ∷ []))
-    accepted-crossed complete b z =
-        let left = p.accepted z in
-        record {
-          refusal_is = sym z ∙ refusal-crossed;
-          left_is =
-              rw (b, left.numbers_is, left.frame_is, left.area_is, left.taken_is, left.complete_is)
-              (ap (λ (d : TakeCall). written (answer d)) whole ∙ left-written (sym refusal-crossed ∙ z));
-        }
+  pub accepted-crossed : (r : Part) (numbers frame area : List ℕ) → InPlace false (call_of l piece) l.numbers (Ok r) numbers frame area
+      → (complete : ℕ) → complete ≡ one r.complete → TakeCrossed l piece 0 (lent numbers frame area (r.taken ∷ complete ∷ []))
+  accepted-crossed r numbers frame area p complete b =
+      let left = p.accepted refl in
+      let told = refusal-crossed (Ok r) numbers frame area p in
+      record {
+        refusal_is = told;
+        left_is =
+            rw (b, left.numbers_is, left.frame_is, left.area_is, left.taken_is, left.complete_is)
+            (ap (λ (d : TakeCall). written (answer d)) whole ∙ left-written (sym told));
+      }
 
-    pub refused-crossed : (r.refusal ≡ 0 → ⊥) → TakeCrossed l piece r.refusal (lent numbers frame area l.answer)
-    refused-crossed h =
-        let kept = p.refused h in
-        record {
-          refusal_is = refusal-crossed;
-          left_is = rw (kept.numbers_kept, kept.frame_kept, kept.area_kept) (left-as_lent (λ z. h (refusal-crossed ∙ z)));
-        }
+  pub refused-crossed : (e : Refusal) (numbers frame area : List ℕ) → InPlace false (call_of l piece) l.numbers (Err e) numbers frame area
+      → TakeCrossed l piece (number e) (lent numbers frame area l.answer)
+  refused-crossed e numbers frame area p =
+      let kept = p.refused (positive e) in
+      let told = refusal-crossed (Err e) numbers frame area p in
+      record {
+        refusal_is = told;
+        left_is = rw (kept.numbers_kept, kept.frame_kept, kept.area_kept) (left-as_lent (λ z. positive e (told ∙ z)));
+      }
 
 -- ---- a call that names an operator
 

@@ -36,11 +36,12 @@ pub fn take(
         (lent numbers.old frame.old area.old answer.old) piece.now result
         (lent numbers.new frame.new area.new answer.new) }
 {
-    let r = in_place::take_part(numbers, frame, piece, false, area);
-    if r.refusal != 0 {
-        return r.refusal;
+    match in_place::take_part(numbers, frame, piece, false, area) {
+        Ok(r) => {
+            let complete = flag(r.complete);
+            *answer = [r.taken as u64, complete];
+            0
+        }
+        Err(refusal) => refusal.number(),
     }
-    let complete = flag(r.complete);
-    *answer = [r.taken as u64, complete];
-    0
 }

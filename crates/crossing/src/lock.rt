@@ -17,13 +17,14 @@ pub fn take_to_lock(
         (lent numbers.old frame.old area.old answer.old) piece.now result
         (lent numbers.new frame.new area.new answer.new) }
 {
-    let r = in_place::take_to_lock(numbers, frame, piece, area);
-    let part = r.part;
-    if part.refusal != 0 {
-        return part.refusal;
+    match in_place::take_to_lock(numbers, frame, piece, area) {
+        Ok(r) => {
+            let part = r.part;
+            let complete = tally_numbers::flag(part.complete);
+            let locked = tally_numbers::flag(r.locked);
+            *answer = [part.taken as u64, complete, locked];
+            0
+        }
+        Err(refusal) => refusal.number(),
     }
-    let complete = tally_numbers::flag(part.complete);
-    let locked = tally_numbers::flag(r.locked);
-    *answer = [part.taken as u64, complete, locked];
-    0
 }

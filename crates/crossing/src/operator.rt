@@ -1,7 +1,7 @@
 // A call that names an operator (paper 02, request 5), on the numbers that the caller lends.
 ghost use Rattle.crossing.specs.Crossing.{places, DutyCrossed};
 
-use base::refusal::{NO_SUCH_OPERATOR, NOT_IN_ORDER};
+use base::refusal::Refusal;
 use reader::LAST_OPERATOR;
 use tally_numbers::NUMBERS;
 
@@ -10,10 +10,10 @@ pub fn change_duty(numbers: &mut [u64; NUMBERS], frame: &mut [u8; 128], operator
     ensures { DutyCrossed (places numbers.old frame.old) operator result (places numbers.new frame.new) }
 {
     if !in_place::in_order(&*numbers, &*frame) {
-        return NOT_IN_ORDER;
+        return Refusal::NotInOrder.number();
     }
     if operator > LAST_OPERATOR {
-        return NO_SUCH_OPERATOR;
+        return Refusal::NoSuchOperator.number();
     }
     let t = tally_numbers::tally_of(&*numbers, &*frame);
     let left = reader::on_duty(t, operator);

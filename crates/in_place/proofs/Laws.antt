@@ -5,10 +5,14 @@ use mathlib.Core.List.{List, [], ◌∷◌, ◌++◌}
 use Prim.Native.Nat.{ℕ, zero, suc, ◌+◌, ◌^◌, ◌≤◌, ◌<◌}
 use native.Mathlib.Nat.{add-zero}
 use native.Mathlib.Omega.{arith}
-use Rattle.std.specs.Prelude.{Ok}
+use Rattle.std.specs.Prelude.{Result, Ok, Err}
 use lib.ListN.{length, get_or, set, length-set, length-append}
 use lib.Seq.{set-append_left, set-get_or}
 use Rattle.base.specs.Lists.{one}
+use Rattle.base.specs.declared.refusal.Refusal.{Refusal}
+use Rattle.base.specs.declared.refusal.Refusal.TheVariants.{NotInOrder}
+use Rattle.base.specs.Refusals.{number, number_of}
+use Rattle.base.proofs.Lines.{positive}
 use Rattle.labelling.specs.declared.Framing.{Framing}
 use Rattle.labelling.specs.declared.Groups.{Groups}
 use Rattle.labelling.specs.declared.Operators.{Operators}
@@ -27,7 +31,7 @@ use Rattle.reader.specs.declared.Taken.{Taken}
 use Rattle.reader.specs.Shapes.{answer_of, PartPromise, locked_by, LockPromise}
 use Rattle.reader.proofs.Answers.{accepted-promise, accepted-part, lock_promise}
 use Rattle.in_place.specs.declared.Part.{Part}
-use Rattle.in_place.specs.Places.{call_in, refused_with, Left, Answered, LockAnswered}
+use Rattle.in_place.specs.Places.{call_in, Left, Answered, LockAnswered}
 
 -- ---- a payment among the numbers
 
@@ -101,28 +105,28 @@ module _ (n frame piece area : List ℕ) (d : TakeCall) where
   c = call_in n frame piece area
 
   -- nothing was written
-  refused-so : (m : ℕ) → (is_tally n ≡ false → suc m ≡ 1) → (is_tally n ≡ true → suc m ≡ take_refusal c)
-      → Answered c d n (refused_with (suc m)) n frame area
-  refused-so m f t = record {
+  refused-so : (e : Refusal) → (is_tally n ≡ false → number e ≡ 1) → (is_tally n ≡ true → number e ≡ take_refusal c)
+      → Answered c d n (Err e) n frame area
+  refused-so e f t = record {
     no_tally = f;
     refusal_is = t;
     refused = λ z. record { numbers_kept = refl; frame_kept = refl; area_kept = refl };
-    accepted = λ z. absurd (omega arith);
+    accepted = λ z. absurd (positive e z);
   }
 
   pub not_ordered : (is_tally n && in_order (tally_of n frame)) ≡ false → (in_order (tally_of n frame) ≡ false → take_refusal c ≡ 1)
-      → Answered c d n (refused_with 1) n frame area
-  not_ordered e q = refused-so 0 (λ z. refl) (λ z. sym (q (rw z at e)))
+      → Answered c d n (Err NotInOrder) n frame area
+  not_ordered e q = refused-so NotInOrder (λ z. refl) (λ z. sym (q (rw z at e)))
 
-  pub refused-call : (m : ℕ) → is_tally n ≡ true → take_refusal c ≡ suc m → Answered c d n (refused_with (suc m)) n frame area
-  refused-call m e q = refused-so m (λ z. absurd (true≢false (sym e ∙ z))) (λ z. sym q)
+  pub refused-call : (x : Refusal) → is_tally n ≡ true → take_refusal c ≡ number x → Answered c d n (Err x) n frame area
+  refused-call x e q = refused-so x (λ z. absurd (true≢false (sym e ∙ z))) (λ z. sym q)
 
-  pub accepted-call : {r : Part} {numbers frame' area' : List ℕ} → is_tally n ≡ true → take_refusal c ≡ 0 → r.refusal ≡ 0
-      → Left (answer d) r numbers frame' area' → Answered c d n r numbers frame' area'
-  accepted-call e q z l = record {
+  pub accepted-call : {r : Part} {numbers frame' area' : List ℕ} → is_tally n ≡ true → take_refusal c ≡ 0
+      → Left (answer d) r numbers frame' area' → Answered c d n (Ok r) numbers frame' area'
+  accepted-call e q l = record {
     no_tally = λ y. absurd (true≢false (sym e ∙ y));
-    refusal_is = λ y. z ∙ sym q;
-    refused = λ h. absurd (h z);
+    refusal_is = λ y. sym q;
+    refused = λ h. absurd (h refl);
     accepted = λ y. l;
   }
 
@@ -132,8 +136,8 @@ both true b e = (refl, e)
 both false b e = absurd (true≢false (sym e))
 
 -- numbers that are no tally's are refused
-pub tally_accepted : (c d : TakeCall) (n : List ℕ) (r : Part) (numbers frame area : List ℕ) → Answered c d n r numbers frame area
-    → r.refusal ≡ 0 → is_tally n ≡ true
+pub tally_accepted : (c d : TakeCall) (n : List ℕ) (r : Result Part Refusal) (numbers frame area : List ℕ) → Answered c d n r numbers frame area
+    → number_of r ≡ 0 → is_tally n ≡ true
 tally_accepted c d n r numbers frame area p z = go (is_tally n) refl
   where
     go : (b : Bool) → is_tally n ≡ b → is_tally n ≡ true
@@ -142,24 +146,30 @@ tally_accepted c d n r numbers frame area p z = go (is_tally n) refl
 
 -- ---- a lock
 
+-- a call that is refused is none that a lock stops
+pub lock_untold : {c d : TakeCall} {n numbers frame area : List ℕ} (e : Refusal) → Answered c (to_lock d) n (Err e) numbers frame area
+    → LockAnswered c d n (Err e) numbers frame area
+lock_untold e p = record { in_place = p; promised = λ z. absurd (positive e z) }
+
 -- of the call c on the numbers n, which answers as d does as far as a lock; d hunts as c does
 module _ (n frame piece area : List ℕ) (d : TakeCall) where
   abbrev asked : TakeCall
   asked = call_in n frame piece area
 
   pub lock_told : (take_refusal asked ≡ 0 → (take_refusal d ≡ 0) × ((f : Framing) → locked_by (framing_of n) f ≡ locked_by d.tally.framing f))
-      → (r : Part) (numbers frame' area' : List ℕ) → Answered asked (to_lock d) n r numbers frame' area' → (locked : Bool)
-      → locked ≡ locked_by (framing_of n) (framing_of numbers) → LockAnswered asked d n (record { part = r; locked = locked }) numbers frame' area'
-  lock_told next r numbers frame' area' p locked k = record { in_place = p; promised = promised }
+      → (r : Part) (numbers frame' area' : List ℕ) → Answered asked (to_lock d) n (Ok r) numbers frame' area' → (locked : Bool)
+      → locked ≡ locked_by (framing_of n) (framing_of numbers)
+      → LockAnswered asked d n (Ok (record { part = r; locked = locked })) numbers frame' area'
+  lock_told next r numbers frame' area' p locked k = record { in_place = p; promised = λ z. promised }
     where
       taken : Taken
       taken = record { taken = r.taken; complete = r.complete; tally = (answer (to_lock d)).tally }
 
-      promised : r.refusal ≡ 0 → LockPromise d (Ok (record { taken = taken; locked = locked })) area'
-      promised z =
-          let so = next (sym (p.refusal_is (tally_accepted asked (to_lock d) n r numbers frame' area' p z)) ∙ z) in
+      promised : LockPromise d (Ok (record { taken = taken; locked = locked })) area'
+      promised =
+          let so = next (sym (p.refusal_is (tally_accepted asked (to_lock d) n (Ok r) numbers frame' area' p refl))) in
           let e = so.0 in
-          let left = p.accepted z in
+          let left = p.accepted refl in
           let same : answer_of taken area' ≡ answer (to_lock d) = rw (left.area_is, left.taken_is, left.complete_is) in
           let e' = part-accepted d e in
           let part : PartPromise true d (Ok taken) area' = accepted-part e (accepted-promise e' (same ∙ accepted-answer (to_lock d) e')) in

@@ -1,6 +1,8 @@
 -- A call before which the lead-in is handed, on a tally that is lent as its numbers and its frame. What it means is the machine fed the lead-in's
 -- twelve bytes (`after_lead_in`); what the code does is `led_in`. Definitions only.
-use Rattle.std.specs.Prelude.{◌≡◌, Bool, true, false, cond, List, [], ◌∷◌, ℕ, ◌+◌, ◌≤◌, ◌^◌, length}
+use Rattle.std.specs.Prelude.{◌≡◌, Bool, true, false, cond, List, [], ◌∷◌, ℕ, ◌+◌, ◌≤◌, ◌^◌, length, Result, Err}
+use Rattle.base.specs.declared.refusal.Refusal.{Refusal}
+use Rattle.base.specs.declared.refusal.Refusal.TheVariants.{NotInOrder}
 use Rattle.base.specs.Format.{sync_word, minor_frame, major_frame}
 use Rattle.labelling.specs.Machine.{State}
 use Rattle.labelling.specs.Order.{in_order}
@@ -9,7 +11,7 @@ use Rattle.nominal.specs.Effect.{after_placed}
 use Rattle.own_sync.specs.Relocking.{lead_in_bytes, after_lead_in}
 use Rattle.tally_numbers.specs.Numbers.{is_tally, groups_of, framing_of, tally_of}
 use Rattle.in_place.specs.declared.Locked.{Locked}
-use Rattle.in_place.specs.Places.{refused_with, Kept, LockAnswered}
+use Rattle.in_place.specs.Places.{Kept, LockAnswered}
 
 -- a lock awaits its word, and before a piece of this length the lead-in fits
 pub record LeadFits (n : List ℕ) (piece : ℕ) : Type 0 where
@@ -23,13 +25,13 @@ abbrev pub after_lead : Bool → TakeCall → TakeCall
 after_lead led c = cond led (after_lead_in c) c
 
 -- `lead_and_take` of the call c: it is refused as c is, and else it answers as c does after the lead-in
-abbrev pub LedInPlace : TakeCall → List ℕ → Locked → List ℕ → List ℕ → List ℕ → Type 0
+abbrev pub LedInPlace : TakeCall → List ℕ → Result Locked Refusal → List ℕ → List ℕ → List ℕ → Type 0
 LedInPlace c = LockAnswered c (after_lead_in c)
 
 -- the same of any numbers: where no lock awaits its word, or the lead-in does not fit, it is refused as a tally not in order is
-pub record LeadPromise (c : TakeCall) (n : List ℕ) (piece : ℕ) (r : Locked) (numbers frame area : List ℕ) : Type 0 where
+pub record LeadPromise (c : TakeCall) (n : List ℕ) (piece : ℕ) (r : Result Locked Refusal) (numbers frame area : List ℕ) : Type 0 where
   pub fits : LeadFits n piece → LedInPlace c n r numbers frame area
-  pub misses : (LeadFits n piece → ⊥) → (r.part ≡ refused_with 1) × Kept c n numbers frame area
+  pub misses : (LeadFits n piece → ⊥) → (r ≡ Err NotInOrder) × Kept c n numbers frame area
 
 -- ---- its parts
 

@@ -11,11 +11,11 @@ ghost use Rattle.order.specs.Room.{GroupsRoom, DutyRoom};
 ghost use Rattle.plain_steps.specs.Shapes.{state_with};
 ghost use Rattle.reader.specs.Shapes.{part_of};
 ghost use Rattle.tally_numbers.specs.Numbers.{is_tally, tally_of, operators_of, numbers_of, counts_only};
-ghost use Rattle.in_place.specs.Places.{call_in, layers_in, refused_with, Left, Answered, InPlace, LockAnswered, LockedInPlace};
+ghost use Rattle.in_place.specs.Places.{call_in, layers_in, Left, Answered, InPlace, LockAnswered, LockedInPlace};
 ghost use Rattle.in_place.specs.Leading.{LeadFits, after_lead, Tested, begun_with, led_in, LeadPromise};
 
 use base::format::{MAJOR_FRAME, SYNC_WORD_0, SYNC_WORD_1, SYNC_WORD_2};
-use base::refusal::{NOT_IN_ORDER, TOO_MANY_BYTES, WRONG_LENGTH};
+use base::refusal::Refusal;
 use order::LIMIT;
 use plain_steps::Layers;
 use tally_numbers::NUMBERS;
@@ -30,25 +30,24 @@ const RULE: usize = 32;
 // How many bytes the lead-in of spacing 0 has.
 const LEAD_IN: u64 = 12;
 
-// The answer of a call.
+// What a call that is not refused has done; the tally is in its places.
 #[derive(Clone, Copy)]
 pub struct Part {
-    // 0, or the number of the refusal, as of `reader::take`. Numbers that are no tally's are not in order.
-    pub refusal: u8,
     // How many bytes of the piece were taken.
     pub taken: usize,
     // Whether a major frame is complete; the area holds it.
     pub complete: bool,
 }
 
-// `reader::take` in place, or `reader::take_to_lock`, by whether a lock stops it. A refusal writes nothing.
+// `reader::take` in place, or `reader::take_to_lock`, by whether a lock stops it. It is refused as that is; numbers that are no tally's are not in order.
+// A refusal writes nothing.
 pub fn take_part(
     numbers: &mut [u64; NUMBERS],
     frame: &mut [u8; 128],
     piece: &[u8],
     stop: bool,
     area: &mut [u8],
-) -> Part
+) -> Result<Part, Refusal>
     ensures { InPlace stop (call_in numbers.old frame.old piece.now area.old) numbers.old result
         numbers.new frame.new area.new }
 {
@@ -63,25 +62,25 @@ fn call(
     stop: bool,
     led: bool,
     area: &mut [u8],
-) -> Part
+) -> Result<Part, Refusal>
     requires { led ≡ true → LeadFits numbers.old (length piece.now) }
     ensures { Answered (call_in numbers.old frame.old piece.now area.old)
         (part_of stop (after_lead led (call_in numbers.old frame.old piece.now area.old))) numbers.old result
         numbers.new frame.new area.new }
 {
     if !in_order(&*numbers, &*frame) {
-        return refused(NOT_IN_ORDER);
+        return Err(Refusal::NotInOrder);
     }
     if area.len() != MAJOR_FRAME {
-        return refused(WRONG_LENGTH);
+        return Err(Refusal::WrongLength);
     }
     if LIMIT - numbers[0] < piece.len() as u64 {
-        return refused(TOO_MANY_BYTES);
+        return Err(Refusal::TooManyBytes);
     }
-    accepted(numbers, frame, piece, stop, led, area)
+    Ok(accepted(numbers, frame, piece, stop, led, area))
 }
 
-// The answer of a call that also stops at a lock.
+// What a call that also stops at a lock has done.
 #[derive(Clone, Copy)]
 pub struct Locked {
     pub part: Part,
@@ -89,13 +88,13 @@ pub struct Locked {
     pub locked: bool,
 }
 
-// `reader::take_to_lock` in place. What it says of a lock beside a refusal has no meaning.
+// `reader::take_to_lock` in place.
 pub fn take_to_lock(
     numbers: &mut [u64; NUMBERS],
     frame: &mut [u8; 128],
     piece: &[u8],
     area: &mut [u8],
-) -> Locked
+) -> Result<Locked, Refusal>
     ensures { LockedInPlace (call_in numbers.old frame.old piece.now area.old) numbers.old result
         numbers.new frame.new area.new }
 {
@@ -109,16 +108,12 @@ pub fn lead_and_take(
     frame: &mut [u8; 128],
     piece: &[u8],
     area: &mut [u8],
-) -> Locked
+) -> Result<Locked, Refusal>
     ensures { LeadPromise (call_in numbers.old frame.old piece.now area.old) numbers.old
         (length piece.now) result numbers.new frame.new area.new }
 {
     if !lead_fits(&*numbers, piece.len()) {
-        let part = refused(NOT_IN_ORDER);
-        return Locked {
-            part: part,
-            locked: false,
-        };
+        return Err(Refusal::NotInOrder);
     }
     call_to_lock(numbers, frame, piece, true, area)
 }
@@ -151,20 +146,20 @@ fn call_to_lock(
     piece: &[u8],
     led: bool,
     area: &mut [u8],
-) -> Locked
+) -> Result<Locked, Refusal>
     requires { led ≡ true → LeadFits numbers.old (length piece.now) }
     ensures { LockAnswered (call_in numbers.old frame.old piece.now area.old)
         (after_lead led (call_in numbers.old frame.old piece.now area.old)) numbers.old result
         numbers.new frame.new area.new }
 {
     let before = tally_numbers::framing_of(&*numbers);
-    let part = call(numbers, frame, piece, true, led, area);
+    let part = call(numbers, frame, piece, true, led, area)?;
     let after = tally_numbers::framing_of(&*numbers);
     let locked = reader::has_locked(before, after);
-    Locked {
+    Ok(Locked {
         part: part,
         locked: locked,
-    }
+    })
 }
 
 // Whether these are the numbers of a tally in order. The frame is not looked at.
@@ -182,16 +177,6 @@ fn whole(bytes: [u8; 128])
     ensures { length bytes ≡ minor_frame }
 {}
 
-fn refused(number: u8) -> Part
-    ensures { result ≡ refused_with number }
-{
-    Part {
-        refusal: number,
-        taken: 0,
-        complete: false,
-    }
-}
-
 // The layers are taken out once a call and put back once.
 fn accepted(
     numbers: &mut [u64; NUMBERS],
@@ -202,7 +187,7 @@ fn accepted(
     area: &mut [u8],
 ) -> Part
     requires { Tested led numbers.old frame.old piece.now area.old }
-    ensures { (result.refusal ≡ 0) × Left
+    ensures { Left
         (answer (part_of stop (after_lead led (call_in numbers.old frame.old piece.now area.old)))) result
         numbers.new frame.new area.new }
 {
@@ -213,7 +198,6 @@ fn accepted(
     let left = r.layers;
     put_layers(left, r.complete, numbers);
     Part {
-        refusal: 0,
         taken: r.at,
         complete: r.complete,
     }

@@ -3,9 +3,12 @@ use mathlib.Core.Path.{◌≡◌, refl, sym, ap, ◌∙◌}
 use mathlib.Core.Bool.{Bool, true, ◌||◌}
 use mathlib.Core.List.{List, [], ◌∷◌}
 use Prim.Native.Nat.{ℕ}
-use Rattle.std.specs.Prelude.{Ok}
+use Rattle.std.specs.Prelude.{Result, Ok, Err}
 use borrow.Author.Tests.{ne_eqb}
 use Rattle.base.specs.Lists.{one}
+use Rattle.base.specs.declared.refusal.Refusal.{Refusal}
+use Rattle.base.specs.Refusals.{number, number_of}
+use Rattle.base.proofs.Lines.{positive}
 use Rattle.labelling.specs.Calls.{TakeCall, take_refusal, answer}
 use Rattle.own_sync.specs.Locks.{to_lock}
 use Rattle.own_sync.specs.Relocking.{locked}
@@ -18,7 +21,7 @@ use Rattle.in_place.specs.declared.Locked.{Locked}
 use Rattle.in_place.specs.Places.{call_in, locked_of, LockedInPlace}
 use Rattle.relock_crossing.specs.declared.Step.{Step}
 use Rattle.relock_crossing.specs.Relocking.{LentFeeder, lent_feeder, feeder_in, relock_refused, step_written, relock_leaves}
-use Rattle.relock_crossing.specs.Relocking.{RelockCrossed, step_of, relocked_of, Moves, StepCrossed}
+use Rattle.relock_crossing.specs.Relocking.{RelockCrossed, step_made, relocked_of, Moves, StepCrossed}
 
 module _ (l : LentFeeder) (piece : List ℕ) (ends : Bool) where
   abbrev f : Feeder
@@ -37,29 +40,32 @@ module _ (l : LentFeeder) (piece : List ℕ) (ends : Bool) where
   step_as_lent h = rw (ne_eqb (relock_refused l piece) 0 h)
 
   -- the step in place
-  module _ (s : Step) (numbers frame area : List ℕ)
-      (p : StepCrossed l.numbers l.frame l.feeder piece ends l.area s numbers frame area) where
-    step_refusal : s.refusal ≡ relock_refused l piece
-    unfolding relock_refused
-    step_refusal = p.refusal_is
+  step_refusal : (s : Result Step Refusal) (numbers frame area : List ℕ)
+      → StepCrossed l.numbers l.frame l.feeder piece ends l.area s numbers frame area → number_of s ≡ relock_refused l piece
+  unfolding relock_refused
+  step_refusal s numbers frame area p = p.refusal_is
 
-    pub step_accepted : (awaits complete more : ℕ) → awaits ≡ one s.awaits → complete ≡ one s.complete → more ≡ one s.more → s.refusal ≡ 0
-        → RelockCrossed l piece ends 0 (lent_feeder numbers frame (awaits ∷ s.handed ∷ []) area (s.taken ∷ complete ∷ more ∷ []))
-    step_accepted awaits complete more w c o z =
-        let moves = p.accepted z in
-        let q = moves.promised in
-        record {
-          refusal_is = sym z ∙ step_refusal;
-          left_is =
-              rw (w, c, o, moves.holds.numbers_is, moves.holds.frame_is)
-              (ap (λ (x : Relocked). step_written x area) (q.answer_is refl)
-              ∙ ap (λ (x : List ℕ). step_written (moved m f piece l.area) x) (q.area_is refl) ∙ step_written_lem (sym step_refusal ∙ z));
-        }
+  pub step_accepted : (s : Step) (numbers frame area : List ℕ) → StepCrossed l.numbers l.frame l.feeder piece ends l.area (Ok s) numbers frame area
+      → (awaits complete more : ℕ) → awaits ≡ one s.awaits → complete ≡ one s.complete → more ≡ one s.more
+      → RelockCrossed l piece ends 0 (lent_feeder numbers frame (awaits ∷ s.handed ∷ []) area (s.taken ∷ complete ∷ more ∷ []))
+  step_accepted s numbers frame area p awaits complete more w c o =
+      let moves = p.accepted refl in
+      let q = moves.promised in
+      let told = step_refusal (Ok s) numbers frame area p in
+      record {
+        refusal_is = told;
+        left_is =
+            rw (w, c, o, moves.holds.numbers_is, moves.holds.frame_is)
+            (ap (λ (x : Relocked). step_written x area) (q.answer_is refl)
+            ∙ ap (λ (x : List ℕ). step_written (moved m f piece l.area) x) (q.area_is refl) ∙ step_written_lem (sym told));
+      }
 
-    pub step_refused : (s.refusal ≡ 0 → ⊥) → RelockCrossed l piece ends s.refusal (lent_feeder numbers frame l.feeder area l.answer)
-    step_refused h =
-        let kept = p.refused h in
-        record { refusal_is = step_refusal; left_is = rw (kept.0, kept.1, kept.2) (step_as_lent (λ z. h (step_refusal ∙ z))) }
+  pub step_refused : (e : Refusal) (numbers frame area : List ℕ) → StepCrossed l.numbers l.frame l.feeder piece ends l.area (Err e) numbers frame area
+      → RelockCrossed l piece ends (number e) (lent_feeder numbers frame l.feeder area l.answer)
+  step_refused e numbers frame area p =
+      let kept = p.refused (positive e) in
+      let told = step_refusal (Err e) numbers frame area p in
+      record { refusal_is = told; left_is = rw (kept.0, kept.1, kept.2) (step_as_lent (λ z. positive e (told ∙ z))) }
 
 -- ---- a call of an accepted step
 
@@ -70,24 +76,21 @@ module _ (n frame old part : List ℕ) (awaits : Bool) (handed : ℕ) where
   abbrev before : Feeder
   before = record { tally = tally_of n frame; awaits = awaits; handed = handed }
 
-  module _ (e : take_refusal c ≡ 0) (t : is_tally n ≡ true) (r : Locked) (numbers left new : List ℕ) (q : LockedInPlace c n r numbers left new) where
-    no_refusal_so : r.part.refusal ≡ 0
-    no_refusal_so = q.in_place.refusal_is t ∙ e
-
-    pub reads_so : (waits : Bool) → ReadsOn before part waits old (relocked_of (step_of r waits handed) (answer (to_lock c)).tally) new
+  module _ (e : take_refusal c ≡ 0) (t : is_tally n ≡ true) (r : Locked) (numbers left new : List ℕ)
+      (q : LockedInPlace c n (Ok r) numbers left new) where
+    pub reads_so : (waits : Bool) → ReadsOn before part waits old (relocked_of (step_made r waits handed) (answer (to_lock c)).tally) new
     reads_so waits =
-        let p = q.promised no_refusal_so in
+        let p = q.promised refl in
         called-so c e (locked_of c r) new p (waits || r.locked) (waits || locked c) handed
         (ap (λ (x : Bool). waits || x) (locked-so c e (locked_of c r) new p))
 
     pub moves_so : (waits : Bool) (piece : List ℕ) (ends : Bool)
-        → RelockPromise before piece ends old (Ok (relocked_of (step_of r waits handed) (answer (to_lock c)).tally)) new
-        → Moves before piece ends old (step_of r waits handed) numbers left new
+        → RelockPromise before piece ends old (Ok (relocked_of (step_made r waits handed) (answer (to_lock c)).tally)) new
+        → Moves before piece ends old (step_made r waits handed) numbers left new
     moves_so waits piece ends p =
-        let kept = q.in_place.accepted no_refusal_so in
+        let kept = q.in_place.accepted refl in
         record {
           tally = (answer (to_lock c)).tally;
           holds = record { numbers_is = kept.numbers_is; frame_is = kept.frame_is };
-          no_refusal = no_refusal_so;
           promised = p;
         }

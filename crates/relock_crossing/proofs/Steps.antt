@@ -5,7 +5,10 @@ use mathlib.Core.Bool.{Bool, true, false, not, ◌&&◌, ◌||◌, true≢false}
 use mathlib.Core.List.{List}
 use Prim.Native.Nat.{ℕ, zero, suc, ◌+◌, ◌/◌, ◌^◌, ◌≤◌, ◌<◌}
 use native.Mathlib.Omega.{arith}
-use Rattle.std.specs.Prelude.{Ok}
+use Rattle.std.specs.Prelude.{Result, Ok, Err}
+use Rattle.base.specs.declared.refusal.Refusal.{Refusal}
+use Rattle.base.specs.Refusals.{number, number_of}
+use Rattle.base.proofs.Lines.{positive}
 use lib.Dec.{eqb, ltb}
 use lib.ListN.{length, get_or}
 use borrow.Author.Tests.{eqb-true, eq-eqb, lt-ltb, ltb-true, not-true}
@@ -26,7 +29,7 @@ use Rattle.in_place.specs.Leading.{LeadFits, LedInPlace}
 use Rattle.in_place.specs.Places.{call_in, locked_of, Answered, LockedInPlace}
 use Rattle.in_place.proofs.Laws.{both, tally_accepted}
 use Rattle.relock_crossing.specs.declared.Step.{Step}
-use Rattle.relock_crossing.specs.Relocking.{is_feeder, feeder_of, refused_by, refused_step, step_of, Fits, Waiting, Moves, Asks, StepCrossed}
+use Rattle.relock_crossing.specs.Relocking.{is_feeder, feeder_of, refused_by, step_by, step_made, step_of, Fits, Waiting, Moves, Asks, StepCrossed}
 use Rattle.relock_crossing.proofs.RelockCrossed.{reads_so, moves_so}
 
 -- ---- the order
@@ -110,8 +113,8 @@ module _ (n frame feeder piece : List ℕ) (ends : Bool) (old : List ℕ) where
         go false o = not_in_order (tally_of n frame) part old o ∙ sym (feeder-not-in-order f (length piece) (length old) (feeder_out f o))
 
     -- the step is refused as its call is
-    step_called : (d : TakeCall) (s : Step) (r : Part) (numbers left new : List ℕ) → s.refusal ≡ r.refusal → Answered c d n r numbers left new
-        → (is_tally n ≡ true → take_refusal c ≡ 0 → relock_refusal f (length piece) (length old) ≡ 0 → Moves f piece ends old s numbers left new)
+    step_called : (d : TakeCall) (s : Result Step Refusal) (r : Result Part Refusal) (numbers left new : List ℕ) → number_of s ≡ number_of r → Answered c d n r numbers left new
+        → (is_tally n ≡ true → take_refusal c ≡ 0 → relock_refusal f (length piece) (length old) ≡ 0 → Moves f piece ends old (step_by s) numbers left new)
         → StepCrossed n frame feeder piece ends old s numbers left new
     step_called d s r numbers left new same q moves = record {
       refusal_is = same ∙ told (is_tally n) refl;
@@ -123,40 +126,45 @@ module _ (n frame feeder piece : List ℕ) (ends : Bool) (old : List ℕ) where
           moves t e (sym same-refusal ∙ e);
     }
       where
-        told : (b : Bool) → is_tally n ≡ b → r.refusal ≡ refused_by n frame feeder (length piece) (length old)
+        told : (b : Bool) → is_tally n ≡ b → number_of r ≡ refused_by n frame feeder (length piece) (length old)
         told true e = rw (feeder_so n feeder true ready.flag e) (q.refusal_is e ∙ same-refusal)
         told false e = rw (feeder_so n feeder false ready.flag e) (q.no_tally e)
 
     -- a call as far as a lock
-    pub step_reads : (waits : Bool) (r : Locked) (numbers left new : List ℕ) → LockedInPlace c n r numbers left new
+    pub step_reads : (waits : Bool) (r : Result Locked Refusal) (numbers left new : List ℕ) → LockedInPlace c n r numbers left new
         → (relock_refusal f (length piece) (length old) ≡ 0 → (x : Relocked) (y : List ℕ) → ReadsOn f part waits old x y
         → RelockPromise f piece ends old (Ok x) y)
         → StepCrossed n frame feeder piece ends old (step_of r waits (get_or feeder 1 0)) numbers left new
-    step_reads waits r numbers left new q promise =
-        step_called (to_lock c) (step_of r waits (get_or feeder 1 0)) r.part numbers left new refl q.in_place
+    step_reads waits (Err x) numbers left new q promise =
+        step_called (to_lock c) (Err x) (Err x) numbers left new refl q.in_place (λ t e a. absurd (positive x (q.in_place.refusal_is t ∙ e)))
+    step_reads waits (Ok r) numbers left new q promise =
+        step_called (to_lock c) (Ok (step_made r waits (get_or feeder 1 0))) (Ok r.part) numbers left new refl q.in_place
         (λ t e a. moves_so n frame old part (eqb (get_or feeder 0 0) 1) (get_or feeder 1 0) e t r numbers left new q waits piece ends
         (promise a _ new (reads_so n frame old part (eqb (get_or feeder 0 0) 1) (get_or feeder 1 0) e t r numbers left new q waits)))
 
   -- the lead-in, and a call on the piece
-  pub step_leads : Ready n frame feeder (length piece) → (r : Locked) (numbers left new : List ℕ)
+  pub step_leads : Ready n frame feeder (length piece) → (r : Result Locked Refusal) (numbers left new : List ℕ)
       → LedInPlace (call_in n frame piece old) n r numbers left new
-      → (relock_refusal f (length piece) (length old) ≡ 0 → (x : Relocked) (y : List ℕ) → LeadsIn f piece old x y → RelockPromise f piece ends old (Ok x) y)
+      → (relock_refusal f (length piece) (length old) ≡ 0 → (x : Relocked) (y : List ℕ) → LeadsIn f piece old x y
+      → RelockPromise f piece ends old (Ok x) y)
       → StepCrossed n frame feeder piece ends old (step_of r false (get_or feeder 1 0 + 1)) numbers left new
-  step_leads ready r numbers left new q promise =
-      step_called ready piece (omega arith) (to_lock d) s r.part numbers left new refl q.in_place moves
+  step_leads ready (Err x) numbers left new q promise =
+      step_called ready piece (omega arith) (to_lock (call_led f piece old)) (Err x) (Err x) numbers left new refl q.in_place
+      (λ t e a. absurd (positive x (q.in_place.refusal_is t ∙ e)))
+  step_leads ready (Ok r) numbers left new q promise =
+      step_called ready piece (omega arith) (to_lock d) (Ok s) (Ok r.part) numbers left new refl q.in_place moves
     where
       d : TakeCall
       d = call_led f piece old
 
       s : Step
-      s = step_of r false (get_or feeder 1 0 + 1)
+      s = step_made r false (get_or feeder 1 0 + 1)
 
       moves : is_tally n ≡ true → take_refusal (call_in n frame piece old) ≡ 0 → relock_refusal f (length piece) (length old) ≡ 0
           → Moves f piece ends old s numbers left new
       moves t e a =
-          let z : r.part.refusal ≡ 0 = q.in_place.refusal_is t ∙ e in
-          let held = q.in_place.accepted z in
-          let p = q.promised z in
+          let held = q.in_place.accepted refl in
+          let p = q.promised refl in
           let accepted : take_refusal d ≡ 0 = sym p.refusal_is in
           let k = passed-call (call_in n frame piece old) e in
           let lead-accepted = no_refusal f.tally lead_in_bytes old k.ordered_tally k.whole-area (omega (arith, ready.fits)) in
@@ -164,15 +172,14 @@ module _ (n frame feeder piece : List ℕ) (ends : Bool) (old : List ℕ) where
           record {
             tally = (answer (to_lock d)).tally;
             holds = record { numbers_is = held.numbers_is; frame_is = held.frame_is };
-            no_refusal = z;
             promised = promise a _ new (record { lead-accepted = lead-accepted; led = led });
           }
 
   -- ---- no call
 
-  pub refused-so : (x : ℕ) → x ≡ refused_by n frame feeder (length piece) (length old) → (x ≡ 0 → ⊥)
-      → StepCrossed n frame feeder piece ends old (refused_step x) n frame old
-  refused-so x e h = record { refusal_is = e; refused = λ z. (refl, refl, refl); accepted = λ z. absurd (h z) }
+  pub refused-so : (x : Refusal) → number x ≡ refused_by n frame feeder (length piece) (length old)
+      → StepCrossed n frame feeder piece ends old (Err x) n frame old
+  refused-so x e = record { refusal_is = e; refused = λ z. (refl, refl, refl); accepted = λ z. absurd (positive x z) }
 
   module _ (e : refused_by n frame feeder (length piece) (length old) ≡ 0) where
     pub passed : (is_feeder n feeder ≡ true) × (relock_refusal f (length piece) (length old) ≡ 0)
@@ -205,9 +212,8 @@ module _ (n frame feeder piece : List ℕ) (ends : Bool) (old : List ℕ) where
     -- the bytes are asked for again
     pub asked-so : (s : Step) (numbers left : List ℕ) → get_or feeder 0 0 ≡ 1 → Asks n frame (get_or feeder 1 0) s numbers left
         → RelockPromise f piece ends old (Ok (record { taken = 0; complete = false; more = true; feeder = f })) old
-        → StepCrossed n frame feeder piece ends old s numbers left old
+        → StepCrossed n frame feeder piece ends old (Ok s) numbers left old
     asked-so s numbers left w k p =
-        let none : s.refusal ≡ 0 = ap (λ (x : Step). x.refusal) k.step_is in
         let awaits : eqb (get_or feeder 0 0) 1 ≡ true = eq-eqb (get_or feeder 0 0) 1 w in
         let told : Bool → Relocked = λ x. record {
           taken = 0;
@@ -217,9 +223,9 @@ module _ (n frame feeder piece : List ℕ) (ends : Bool) (old : List ℕ) where
         } in
         let promised = subst (λ (x : Bool). RelockPromise f piece ends old (Ok (told x)) old) awaits p in
         record {
-          refusal_is = none ∙ sym e;
-          refused = λ h. absurd (h none);
-          accepted = λ z. rw k.step_is (record { tally = tally_of n frame; holds = k.holds; no_refusal = refl; promised = promised });
+          refusal_is = sym e;
+          refused = λ h. absurd (h refl);
+          accepted = λ z. rw k.step_is (record { tally = tally_of n frame; holds = k.holds; promised = promised });
         }
 
 -- ---- the lines of the refusal

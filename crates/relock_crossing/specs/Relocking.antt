@@ -1,7 +1,8 @@
 -- A step that locks on a frame's own sync, as it crosses: the feeder is the numbers of its tally, and two beside them. Definitions only.
-use Rattle.std.specs.Prelude.{◌≡◌, Bool, true, false, cond, not, ◌&&◌, ◌||◌, List, [], ◌∷◌, ℕ, ◌+◌, ◌/◌, ◌^◌, ◌≤◌, eqb, ltb, length, get_or, Ok}
+use Rattle.std.specs.Prelude.{◌≡◌, Bool, true, false, cond, not, ◌&&◌, ◌||◌, List, [], ◌∷◌, ℕ, ◌+◌, ◌/◌, ◌^◌, ◌≤◌, eqb, ltb, length, get_or, Result, Ok, Err}
+use Rattle.base.specs.declared.refusal.Refusal.{Refusal}
 use Rattle.base.specs.Lists.{one}
-use Rattle.base.specs.Refusals.{◌when◌, answered, number}
+use Rattle.base.specs.Refusals.{◌when◌, answered, number, number_of, given_or}
 use Rattle.base.specs.declared.refusal.Refusal.TheVariants.{NotInOrder}
 use Rattle.labelling.specs.declared.Tally.{Tally}
 use Rattle.relocking.specs.declared.Feeder.{Feeder}
@@ -73,13 +74,18 @@ pub record Waiting (n frame feeder : List ℕ) (piece : ℕ) : Type 0 where
   pub few : get_or feeder 1 0 ≤ get_or n 0 0 / 12
   pub fits : get_or n 0 0 + piece + 12 ≤ 2 ^ 40
 
-abbrev pub refused_step : ℕ → Step
-refused_step n = record { refusal = n; taken = 0; complete = false; more = false; awaits = false; handed = 0 }
+-- what has come of a step that answers s: of a refused one nothing
+abbrev pub step_by : Result Step Refusal → Step
+step_by s = given_or (record { taken = 0; complete = false; more = false; awaits = false; handed = 0 }) s
 
 -- a call as far as a lock, as a step
-abbrev pub step_of : Locked → Bool → ℕ → Step
-step_of r waits handed =
-    record { refusal = r.part.refusal; taken = r.part.taken; complete = r.part.complete; more = false; awaits = waits || r.locked; handed = handed }
+abbrev pub step_made : Locked → Bool → ℕ → Step
+step_made r waits handed =
+    record { taken = r.part.taken; complete = r.part.complete; more = false; awaits = waits || r.locked; handed = handed }
+
+abbrev pub step_of : Result Locked Refusal → Bool → ℕ → Result Step Refusal
+step_of (Ok r) waits handed = Ok (step_made r waits handed)
+step_of (Err e) waits handed = Err e
 
 -- an accepted step with the tally that it leaves, as `relocking` answers it
 abbrev pub relocked_of : Step → Tally → Relocked
@@ -99,16 +105,15 @@ pub record Holds (t : Tally) (numbers frame : List ℕ) : Type 0 where
 pub record Moves (f : Feeder) (piece : List ℕ) (ends : Bool) (old : List ℕ) (s : Step) (numbers frame new : List ℕ) : Type 0 where
   pub tally : Tally
   pub holds : Holds tally numbers frame
-  pub no_refusal : s.refusal ≡ 0
   pub promised : RelockPromise f piece ends old (Ok (relocked_of s tally)) new
 
 -- the bytes are asked for again
 pub record Asks (n frame : List ℕ) (handed : ℕ) (s : Step) (numbers left : List ℕ) : Type 0 where
-  pub step_is : s ≡ record { refusal = 0; taken = 0; complete = false; more = true; awaits = true; handed = handed }
+  pub step_is : s ≡ record { taken = 0; complete = false; more = true; awaits = true; handed = handed }
   pub holds : Holds (tally_of n frame) numbers left
 
 -- a step from these places is told as s and leaves them so
-pub record StepCrossed (n frame feeder piece : List ℕ) (ends : Bool) (old : List ℕ) (s : Step) (numbers left new : List ℕ) : Type 0 where
-  pub refusal_is : s.refusal ≡ refused_by n frame feeder (length piece) (length old)
-  pub refused : (s.refusal ≡ 0 → ⊥) → (numbers ≡ n) × (left ≡ frame) × (new ≡ old)
-  pub accepted : s.refusal ≡ 0 → Moves (feeder_of n frame feeder) piece ends old s numbers left new
+pub record StepCrossed (n frame feeder piece : List ℕ) (ends : Bool) (old : List ℕ) (s : Result Step Refusal) (numbers left new : List ℕ) : Type 0 where
+  pub refusal_is : number_of s ≡ refused_by n frame feeder (length piece) (length old)
+  pub refused : (number_of s ≡ 0 → ⊥) → (numbers ≡ n) × (left ≡ frame) × (new ≡ old)
+  pub accepted : number_of s ≡ 0 → Moves (feeder_of n frame feeder) piece ends old (step_by s) numbers left new

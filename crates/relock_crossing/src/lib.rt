@@ -3,13 +3,14 @@
 #![tactic(auto)]
 
 ghost use Rattle.std.specs.Prelude.{◌≡◌, true, not, ◌&&◌, eqb, length, List, ℕ};
+ghost use Rattle.base.specs.Refusals.{number_of};
 ghost use Rattle.tally_numbers.specs.Numbers.{is_tally, tally_of};
 ghost use Rattle.relocking.specs.Relock.{stands_at_lock, feeder_in_order, before_group};
-ghost use Rattle.relock_crossing.specs.Relocking.{is_feeder, feeder_of, refused_by, step_of, refused_step, Fits, Waiting, StepCrossed, Asks};
+ghost use Rattle.relock_crossing.specs.Relocking.{is_feeder, feeder_of, refused_by, step_of, Fits, Waiting, StepCrossed, Asks};
 ghost use Rattle.relock_crossing.specs.Relocking.{lent_feeder, RelockCrossed};
 
 use base::format::MAJOR_FRAME;
-use base::refusal::{NOT_IN_ORDER, TOO_MANY_BYTES, WRONG_LENGTH};
+use base::refusal::Refusal;
 use in_place::Locked;
 use order::LIMIT;
 use relocking::LEAD_IN;
@@ -32,22 +33,22 @@ pub fn relock(
         piece.now (not (eqb ends 0)) result
         (lent_feeder numbers.new frame.new feeder.new area.new answer.new) }
 {
-    let s = stepped(numbers, frame, &*feeder, piece, ends != 0, area);
-    if s.refusal != 0 {
-        return s.refusal;
+    match stepped(numbers, frame, &*feeder, piece, ends != 0, area) {
+        Ok(s) => {
+            let awaits = flag(s.awaits);
+            let complete = flag(s.complete);
+            let more = flag(s.more);
+            *feeder = [awaits, s.handed];
+            *answer = [s.taken as u64, complete, more];
+            0
+        }
+        Err(refusal) => refusal.number(),
     }
-    let awaits = flag(s.awaits);
-    let complete = flag(s.complete);
-    let more = flag(s.more);
-    *feeder = [awaits, s.handed];
-    *answer = [s.taken as u64, complete, more];
-    0
 }
 
-// What a step answers, and the feeder's two after it.
+// What a step that is not refused answers, and the feeder's two after it.
 #[derive(Clone, Copy)]
 pub(crate) struct Step {
-    pub(crate) refusal: u8,
     pub(crate) taken: usize,
     pub(crate) complete: bool,
     pub(crate) more: bool,
@@ -64,7 +65,7 @@ fn stepped(
     piece: &[u8],
     ends: bool,
     area: &mut [u8],
-) -> Step
+) -> Result<Step, Refusal>
     ensures { StepCrossed numbers.old frame.old feeder.now piece.now ends area.old result
         numbers.new frame.new area.new }
 {
@@ -78,8 +79,9 @@ fn stepped(
     if (awaits == 1) & fit & stands(&*numbers) {
         return at_lock(numbers, frame, feeder, piece, ends, area);
     }
-    let number = refusal(&*numbers, &*frame, feeder, piece.len(), area.len());
-    refused(number)
+    permitted(&*numbers, &*frame, feeder, piece.len(), area.len())?;
+    // It is never permitted here: what it tests beside the order has failed above.
+    Err(Refusal::NotInOrder)
 }
 
 // Below a quarter of the limit nothing can pass it: there a plain step has one test less to make, and no division.
@@ -104,30 +106,30 @@ fn fits(bytes: u64, handed: u64, piece: usize) -> bool
     true
 }
 
-// The number of the refusal, 0 for none.
-fn refusal(
+// Whether a step from these numbers is refused, by the lengths of the piece and of the area.
+fn permitted(
     n: &[u64; NUMBERS],
     frame: &[u8; 128],
     feeder: &[u64; 2],
     piece: usize,
     area: usize,
-) -> u8
-    ensures { result ≡ refused_by n.now frame.now feeder.now piece area }
+) -> Result<(), Refusal>
+    ensures { number_of result ≡ refused_by n.now frame.now feeder.now piece area }
 {
     if !in_order(n, frame, feeder) {
-        return NOT_IN_ORDER;
+        return Err(Refusal::NotInOrder);
     }
     if area != MAJOR_FRAME {
-        return WRONG_LENGTH;
+        return Err(Refusal::WrongLength);
     }
     let left = LIMIT - n[0];
     if left < LEAD_IN {
-        return TOO_MANY_BYTES;
+        return Err(Refusal::TooManyBytes);
     }
     if left - LEAD_IN < piece as u64 {
-        return TOO_MANY_BYTES;
+        return Err(Refusal::TooManyBytes);
     }
-    0
+    Ok(())
 }
 
 // Whether these are the numbers of a feeder in order.
@@ -147,32 +149,19 @@ fn stands(n: &[u64; NUMBERS]) -> bool
     (n[13] != 1) & (n[12] == 0) & (n[5] == 0)
 }
 
-fn refused(number: u8) -> Step
-    ensures { result ≡ refused_step number }
-{
-    Step {
-        refusal: number,
-        taken: 0,
-        complete: false,
-        more: false,
-        awaits: false,
-        handed: 0,
-    }
-}
-
 // A call as far as a lock, as a step. `waits` says that the lock before it goes on waiting.
-fn read(r: Locked, waits: bool, handed: u64) -> Step
+fn read(r: Result<Locked, Refusal>, waits: bool, handed: u64) -> Result<Step, Refusal>
     ensures { result ≡ step_of r waits handed }
 {
+    let r = r?;
     let part = r.part;
-    Step {
-        refusal: part.refusal,
+    Ok(Step {
         taken: part.taken,
         complete: part.complete,
         more: false,
         awaits: waits | r.locked,
         handed: handed,
-    }
+    })
 }
 
 // A lock awaits its word: what stands before the next group comes first.
@@ -183,7 +172,7 @@ fn at_lock(
     piece: &[u8],
     ends: bool,
     area: &mut [u8],
-) -> Step
+) -> Result<Step, Refusal>
     requires { Waiting numbers.old frame.old feeder.now (length piece.now) }
     ensures { StepCrossed numbers.old frame.old feeder.now piece.now ends area.old result
         numbers.new frame.new area.new }
@@ -205,7 +194,7 @@ fn decide(
     piece: &[u8],
     ends: bool,
     area: &mut [u8],
-) -> Step
+) -> Result<Step, Refusal>
     requires { Waiting numbers.old frame.old feeder.now (length piece.now) × (before_group piece.now ≡ 0) }
     ensures { StepCrossed numbers.old frame.old feeder.now piece.now ends area.old result
         numbers.new frame.new area.new }
@@ -216,11 +205,8 @@ fn decide(
             let r = in_place::take_to_lock(numbers, frame, piece, area);
             return read(r, true, handed);
         }
-        let number = refusal(&*numbers, &*frame, feeder, piece.len(), area.len());
-        if number != 0 {
-            return refused(number);
-        }
-        return asks(numbers, frame, handed);
+        permitted(&*numbers, &*frame, feeder, piece.len(), area.len())?;
+        return Ok(asks(numbers, frame, handed));
     }
     if relocking::begins_frame(numbers[32], piece[1], piece[2], piece[3]) {
         let r = in_place::take_to_lock(numbers, frame, piece, area);
@@ -238,7 +224,6 @@ fn asks(numbers: &mut [u64; NUMBERS], frame: &mut [u8; 128], handed: u64) -> Ste
     let t = tally_numbers::tally_of(&*numbers, &*frame);
     tally_numbers::put_tally(t, numbers, frame);
     Step {
-        refusal: 0,
         taken: 0,
         complete: false,
         more: true,

@@ -4,6 +4,7 @@ use mathlib.Core.Bool.{true}
 use Prim.Native.Nat.{◌+◌, ◌≤◌, ◌<◌, ◌^◌}
 use native.Mathlib.Omega.{arith}
 use lib.ListN.{length, get_or}
+use Rattle.base.specs.declared.refusal.Refusal.TheVariants.{WrongLength, TooManyBytes}
 use Rattle.labelling.specs.declared.Tally.{Tally}
 use Rattle.labelling.specs.Order.{in_order}
 use Rattle.labelling.proofs.Ordered.{bytes_within}
@@ -26,13 +27,13 @@ pub returns-then-not-in_order : goal.returns-then-not-in_order
 returns-then-not-in_order c =
     let a = c.args in
     let out = sym c.in_order.ensures.value ∙ c.if-not-in_order.true in
-    rw c.refused.ensures (not_ordered _ _ _ _ _ out (not_in_order (tally (goal.at.returns-then-not-in_order c).After-in_order) a.piece.now a.area.now))
+    (not_ordered _ _ _ _ _ out (not_in_order (tally (goal.at.returns-then-not-in_order c).After-in_order) a.piece.now a.area.now))
 
 pub returns-then-area-ne-MAJOR_FRAME : goal.returns-then-area-ne-MAJOR_FRAME
 returns-then-area-ne-MAJOR_FRAME c =
     let o = in_order-so (goal.at.returns-then-area-ne-MAJOR_FRAME c).Else-not-in_order in
     let a = c.args in
-    rw c.refused-then-area-ne-MAJOR_FRAME.ensures (refused-call _ _ _ _ _ 1 o.0 (wrong-area (tally (goal.at.returns-then-area-ne-MAJOR_FRAME c).After-in_order) a.piece.now a.area.now o.1 c.if-area-ne-MAJOR_FRAME.true))
+    (refused-call _ _ _ _ _ WrongLength o.0 (wrong-area (tally (goal.at.returns-then-area-ne-MAJOR_FRAME c).After-in_order) a.piece.now a.area.now o.1 c.if-area-ne-MAJOR_FRAME.true))
 
 pub overflow_sub-numbers : goal.overflow_sub-numbers
 overflow_sub-numbers c =
@@ -43,7 +44,7 @@ returns-then-numbers-piece c =
     let o = in_order-so (goal.at.returns-then-numbers-piece c).Else-not-in_order in
     let a = c.args in
     let over : 2 ^ 40 < get_or a.numbers.now 0 0 + length a.piece.now = omega (arith, bytes_within (tally (goal.at.returns-then-numbers-piece c).After-in_order) o.1, c.if-numbers-piece.true) in
-    rw c.refused-then-numbers-piece.ensures (refused-call _ _ _ _ _ 2 o.0 (too_long (tally (goal.at.returns-then-numbers-piece c).After-in_order) a.piece.now a.area.now o.1 c.if-area-ne-MAJOR_FRAME.false over))
+    (refused-call _ _ _ _ _ TooManyBytes o.0 (too_long (tally (goal.at.returns-then-numbers-piece c).After-in_order) a.piece.now a.area.now o.1 c.if-area-ne-MAJOR_FRAME.false over))
 
 pub accepted-requires : goal.accepted-requires
 accepted-requires c =
@@ -65,4 +66,4 @@ returns c =
     let a = c.args in
     let fits : get_or a.numbers.now 0 0 + length a.piece.now ≤ 2 ^ 40 = omega (arith, bytes_within (tally (goal.at.returns c).After-in_order) o.1, c.if-numbers-piece.false) in
     let none = no_refusal (tally (goal.at.returns c).After-in_order) a.piece.now a.area.now o.1 c.if-area-ne-MAJOR_FRAME.false fits in
-    accepted-call _ _ _ _ _ o.0 none c.accepted.ensures.0 c.accepted.ensures.1
+    accepted-call _ _ _ _ _ o.0 none c.accepted.ensures

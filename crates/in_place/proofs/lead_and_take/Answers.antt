@@ -9,7 +9,7 @@ returns-then-not-lead_fits c =
     let never = c.lead_fits.ensures.1 c.if-not-lead_fits.true in
     record {
       fits = λ f. absurd (never f);
-      misses = λ h. (c.refused-part.ensures, record { numbers_kept = refl; frame_kept = refl; area_kept = refl });
+      misses = λ h. (refl, record { numbers_kept = refl; frame_kept = refl; area_kept = refl });
     }
 
 -- where the test has passed

@@ -2,6 +2,7 @@
 use mathlib.Core.Bool.{true, false}
 use mathlib.Core.Path.{refl, sym, ◌∙◌}
 use native.Mathlib.Omega.{arith}
+use Rattle.std.proofs.lemmas.Result.{err_from_is_err_and}
 use Rattle.relocking.proofs.Moves.{reads_part, asks_again, reads_frame, leads_other}
 use Rattle.relock_crossing.proofs.Steps.{feeder_tally, ready_waiting, lead-fits, step_reads, step_leads, refused-so, passed, asked-so}
 use Rattle.relock_crossing.proofs.decide.Goals as goal
@@ -13,15 +14,16 @@ returns-then-ends-piece c =
     (step_reads _ _ _ piece _ _ (ready_waiting _ _ _ _ c.requires.0) piece (omega arith) true _ _ _ _ c.take_to_lock-r.ensures
     (λ a. reads_part _ piece _ _ a (rw c.requires.0.awaits refl) c.requires.1 c.if-piece-lt4.true c.if-ends-piece.true))
 
-pub returns-then-number-ne0 : goal.returns-then-number-ne0
-returns-then-number-ne0 c =
+pub returns-in_err-permitted : goal.returns-in_err-permitted
+returns-in_err-permitted c =
     let a = c.args in
-    rw c.refused.ensures (refused-so _ _ _ a.piece.now a.ends a.area.now _ c.refusal-number.ensures c.if-number-ne0.true)
+    let p = err_from_is_err_and c.from_residual.result c.from_residual.ensures.1 in
+    rw (p.1, p.2) (refused-so _ _ _ a.piece.now a.ends a.area.now _ c.in_err-permitted.ensures)
 
 pub asks-requires : goal.asks-requires
 asks-requires c =
     let a = c.args in
-    let e = sym c.refusal-number.ensures ∙ c.if-number-ne0.false in
+    let e = sym c.in_ok-permitted.ensures in
     (feeder_tally _ _ (passed _ a.frame.now _ a.piece.now a.ends a.area.now e).0).0
 
 pub returns-then-piece-lt4 : goal.returns-then-piece-lt4
@@ -32,7 +34,7 @@ returns-then-piece-lt4 c =
     let feeder = a.feeder.now in
     let piece = a.piece.now in
     let old = a.area.now in
-    let e = sym c.refusal-number.ensures ∙ c.if-number-ne0.false in
+    let e = sym c.in_ok-permitted.ensures in
     let accepted = (passed n frame feeder piece a.ends old e).1 in
     asked-so n frame feeder piece a.ends old e c.asks.result _ _ c.requires.0.awaits c.asks.ensures
     (asks_again _ piece a.ends old accepted (rw c.requires.0.awaits refl) c.requires.1 c.if-piece-lt4.true c.if-ends-piece.false)

@@ -2,10 +2,9 @@
 use Rattle.relock_crossing.proofs.RelockCrossed.{step_accepted, step_refused}
 use Rattle.relock_crossing.proofs.relock.Goals as goal
 
-pub returns-then-s-ne0 : goal.returns-then-s-ne0
-returns-then-s-ne0 c = step_refused _ _ _ _ _ _ _ c.stepped-s.ensures c.if-s-ne0.true
+pub returns-in-Ok : goal.returns-in-Ok
+returns-in-Ok c =
+    step_accepted _ _ _ _ _ _ _ c.in-Ok.ensures _ _ _ c.flag-awaits.ensures c.flag-complete.ensures c.flag-more.ensures
 
-pub returns : goal.returns
-returns c =
-    step_accepted _ _ _ _ _ _ _ c.stepped-s.ensures _ _ _ c.flag-awaits.ensures c.flag-complete.ensures
-    c.flag-more.ensures c.if-s-ne0.false
+pub returns-in-Err : goal.returns-in-Err
+returns-in-Err c = rw c.number.ensures (step_refused _ _ _ _ _ _ _ c.in-Err.ensures)

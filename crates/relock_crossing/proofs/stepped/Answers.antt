@@ -3,6 +3,7 @@ use mathlib.Core.Bool.{false}
 use mathlib.Core.Path.{refl, sym, ◌∙◌}
 use native.Mathlib.Omega.{arith}
 use borrow.Author.Tests.{eqb-true}
+use Rattle.std.proofs.lemmas.Result.{err_from_is_err_and}
 use Rattle.in_place.proofs.Laws.{both}
 use Rattle.relocking.proofs.Moves.{reads_all}
 use Rattle.relock_crossing.proofs.Steps.{ready_none, step_reads, called-else, refused-so}
@@ -30,12 +31,15 @@ at_lock-requires c =
       fits = fit.1;
     }
 
+pub returns-in_err-permitted : goal.returns-in_err-permitted
+returns-in_err-permitted c =
+    let a = c.args in
+    let p = err_from_is_err_and c.from_residual.result c.from_residual.ensures.1 in
+    rw (p.1, p.2) (refused-so _ _ _ a.piece.now a.ends a.area.now _ c.in_err-permitted.ensures)
+
 pub returns : goal.returns
 returns c =
     let a = c.args in
-    let number = c.refusal-number.ensures in
     let stands = c.stands.ensures a.frame.now in
-    rw c.refused.ensures
-    (refused-so _ _ _ a.piece.now a.ends a.area.now _ number
-    (λ z. called-else _ _ _ a.piece.now a.ends a.area.now (sym number ∙ z) _ _ c.fits-fit.ensures stands
-    c.if-awaits-fit.false c.if-awaits-fit-2.false))
+    absurd (called-else _ _ _ a.piece.now a.ends a.area.now (sym c.in_ok-permitted.ensures) _ _ c.fits-fit.ensures stands
+    c.if-awaits-fit.false c.if-awaits-fit-2.false)

@@ -18,12 +18,12 @@ module _ (c : Else-not-in_order) where
   ordered = both _ _ (sym c.in_order.ensures.value ∙ c.if-not-in_order.false)
 
 pub returns-then-not-in_order : goal.returns-then-not-in_order
-returns-then-not-in_order c = duty_not_ordered _ _ (sym c.in_order.ensures.value ∙ c.if-not-in_order.true)
+returns-then-not-in_order c = rw c.number.ensures (duty_not_ordered _ _ (sym c.in_order.ensures.value ∙ c.if-not-in_order.true))
 
 pub returns-then-operator-gt-LAST_OPERATOR : goal.returns-then-operator-gt-LAST_OPERATOR
 returns-then-operator-gt-LAST_OPERATOR c =
     let o = ordered (goal.at.returns-then-operator-gt-LAST_OPERATOR c).Else-not-in_order in
-    duty_no_operator _ _ o.0 o.1 (omega (arith, c.if-operator-gt-LAST_OPERATOR.true))
+    rw c.number-then-operator-gt-LAST_OPERATOR.ensures (duty_no_operator _ _ o.0 o.1 (omega (arith, c.if-operator-gt-LAST_OPERATOR.true)))
 
 pub returns : goal.returns
 returns c =

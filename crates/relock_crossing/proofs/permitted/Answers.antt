@@ -1,4 +1,4 @@
--- `relock_crossing::refusal` meets its contract: its tests are the refusal table's, in the table's order. Assumes nothing.
+-- `relock_crossing::permitted` meets its contract: its tests are the refusal table's, in the table's order. Assumes nothing.
 use mathlib.Core.Path.{◌≡◌, sym, ◌∙◌}
 use mathlib.Core.Bool.{true}
 use Prim.Native.Nat.{◌≤◌, ◌^◌}
@@ -10,8 +10,8 @@ use Rattle.relocking.proofs.Relocking.{feeder_ordered, wrong-area, too_long, acc
 use Rattle.in_place.proofs.Laws.{both}
 use Rattle.relock_crossing.specs.Relocking.{is_feeder, feeder_of}
 use Rattle.relock_crossing.proofs.Steps.{order_refused, line}
-use Rattle.relock_crossing.proofs.refusal.Goals as goal
-use Rattle.relock_crossing.proofs.refusal.Goals.{Else-not-in_order}
+use Rattle.relock_crossing.proofs.permitted.Goals as goal
+use Rattle.relock_crossing.proofs.permitted.Goals.{Else-not-in_order}
 
 -- past the test of the order
 module _ (c : Else-not-in_order) where
