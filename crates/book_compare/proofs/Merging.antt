@@ -16,10 +16,12 @@ use Rattle.base.specs.Ranges.{tabulate}
 use Rattle.base.proofs.Lists.{concat_map-append}
 use Rattle.book.specs.Layout.{cycles_said, instant_at, body_at}
 use Rattle.book_parts.specs.Parts.{Entered}
+use Rattle.book_compare.specs.declared.merge.Line.{Line}
 use Rattle.book_compare.specs.declared.merge.Step.{Step}
+use Rattle.std.proofs.Common.{Option, Some, None}
 use Rattle.book_compare.specs.Differences.{Cycle, cycle_at, Difference, only_first, only_second, in_both, first_differing}
 use Rattle.book_compare.specs.Answer.{numbers, listed}
-use Rattle.book_compare.specs.Merge.{merged, cycles_from, merged_from, step_to, no_differing_line, line_of, lines_of, past_both, step_numbers}
+use Rattle.book_compare.specs.Merge.{merged, cycles_from, merged_from, step_to, bare_step_to, difference_in, lines_in, past_both, line_numbers}
 use Rattle.book_compare.specs.Merge.{Placed, Stepped, PutPromise}
 use Rattle.book_compare.proofs.FirstByte.{differing_le, same-list, differs_nowhere}
 use Rattle.book_parts.proofs.Held.{body-length}
@@ -93,7 +95,7 @@ module _ (a b : List ℕ) (i j : ℕ) (s : Step) where
       pub together-past : s ≡ past_both i j t p → Stepped a b i j s
       together-past es = go (leb 65536 p) refl es
         where
-          go : (q : Bool) → leb 65536 p ≡ q → s ≡ step_to (i + 1) (j + 1) (cond q no_differing_line (in_both t p)) → Stepped a b i j s
+          go : (q : Bool) → leb 65536 p ≡ q → s ≡ cond q (bare_step_to (i + 1) (j + 1)) (step_to (i + 1) (j + 1) (in_both t p)) → Stepped a b i j s
           go true e f =
               let h = hi.below in
               let k = hj.below in
@@ -164,26 +166,26 @@ module _ (a b old table : List ℕ) (i j k : ℕ) (s : Step) (st : Stepped a b i
   abbrev next : List Difference
   next = merged_from a b s.i s.j
 
-  merged_on : (ls : List Difference) → lines_of s ≡ ls → p.done ++ (ls ++ next) ≡ merged_from a b 0 0
+  merged_on : (ls : List Difference) → lines_in s.line ≡ ls → p.done ++ (ls ++ next) ≡ merged_from a b 0 0
   merged_on ls e = ap (λ (r : List Difference). p.done ++ (r ++ next)) (sym e) ∙ ap (λ (r : List Difference). p.done ++ r) (sym st.goes_on) ∙ p.whole
 
-  pub no_line : s.case ≡ 0 → Progress a b old table s.i s.j k
+  pub no_line : s.line ≡ None → Progress a b old table s.i s.j k
   no_line z = record {
     done = p.done;
     count = p.count;
-    whole = merged_on [] (rw (eq-eqb s.case 0 z));
+    whole = merged_on [] (ap lines_in z);
     holds = p.holds;
   }
 
-  pub one_line : (s.case ≡ 0 → ⊥) → (new : List ℕ) → new ≡ take (3 * k) table ++ (step_numbers s ++ drop (3 * k + 3) table)
-      → Progress a b old new s.i s.j (k + 1)
-  one_line z new e =
+  pub one_line : (line : Line) → s.line ≡ Some line → (new : List ℕ)
+      → new ≡ take (3 * k) table ++ (line_numbers line ++ drop (3 * k + 3) table) → Progress a b old new s.i s.j (k + 1)
+  one_line line z new e =
       let c = p.count in
-      let l = line_of s in
+      let l = difference_in line in
       record {
         done = p.done ++ (l ∷ []);
         count = omega (arith, length-append p.done (l ∷ []));
-        whole = append_assoc p.done (l ∷ []) next ∙ merged_on (l ∷ []) (rw (ne_eqb s.case 0 z));
+        whole = append_assoc p.done (l ∷ []) next ∙ merged_on (l ∷ []) (ap lines_in z);
         holds = e ∙ listed_more p.done l old table k c p.holds;
       }
 

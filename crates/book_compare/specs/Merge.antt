@@ -1,9 +1,10 @@
 -- How the code goes: two books are merged by rising instant, one step at a time, and two bodies are looked at byte by byte. Definitions only.
-use Rattle.std.specs.Prelude.{◌≡◌, true, cond, List, [], ◌∷◌, ◌++◌, map, ℕ, ◌+◌, ◌-◌, ◌≤◌, ◌<◌, eqb, leb, ltb, length, get_or}
+use Rattle.std.specs.Prelude.{◌≡◌, true, cond, List, [], ◌∷◌, ◌++◌, map, ℕ, ◌+◌, ◌-◌, ◌≤◌, ◌<◌, eqb, leb, ltb, length, get_or, Option, Some, None}
 use Rattle.base.specs.Ranges.{tabulate}
 use Rattle.cycle.specs.Cycle.{cycle_length}
 use Rattle.book.specs.Layout.{cycles_said}
 use Rattle.book.specs.Header.{has_size}
+use Rattle.book_compare.specs.declared.merge.Line.{Line}
 use Rattle.book_compare.specs.declared.merge.Step.{Step}
 use Rattle.book_compare.specs.Differences.{Cycle, Difference, cycle_at, only_first, only_second, in_both, first_differing}
 use Rattle.book_compare.specs.Answer.{numbers, listed}
@@ -46,29 +47,30 @@ pub record Placed (a b : List ℕ) (i j : ℕ) : Type 0 where
   pub first_within : i ≤ cycles_said a
   pub second_within : j ≤ cycles_said b
 
--- a step to the cycles i and j with this line; the case 0 is for none
+-- a step to the cycles i and j with this line, and one with none
 abbrev pub step_to : ℕ → ℕ → Difference → Step
-step_to i j l = record { i = i; j = j; instant = l.instant; case = l.case; place = l.place }
+step_to i j l = record { i = i; j = j; line = Some (record { instant = l.instant; case = l.case; place = l.place }) }
 
-abbrev pub no_differing_line : Difference
-no_differing_line = record { instant = 0; case = 0; place = 0 }
+abbrev pub bare_step_to : ℕ → ℕ → Step
+bare_step_to i j = record { i = i; j = j; line = None }
 
-abbrev pub line_of : Step → Difference
-line_of s = record { instant = s.instant; case = s.case; place = s.place }
+abbrev pub difference_in : Line → Difference
+difference_in l = record { instant = l.instant; case = l.case; place = l.place }
 
-abbrev pub lines_of : Step → List Difference
-lines_of s = cond (eqb s.case 0) [] (line_of s ∷ [])
+abbrev pub lines_in : Option Line → List Difference
+lines_in None = []
+lines_in (Some l) = difference_in l ∷ []
 
 -- past two cycles of the instant t whose bodies differ first at this place
 abbrev pub past_both : ℕ → ℕ → ℕ → ℕ → Step
-past_both i j t place = step_to (i + 1) (j + 1) (cond (leb cycle_length place) no_differing_line (in_both t place))
+past_both i j t place = cond (leb cycle_length place) (bare_step_to (i + 1) (j + 1)) (step_to (i + 1) (j + 1) (in_both t place))
 
-abbrev pub step_numbers : Step → List ℕ
-step_numbers s = numbers (line_of s)
+abbrev pub line_numbers : Line → List ℕ
+line_numbers l = numbers (difference_in l)
 
 -- from cycles i and j on, a step gives at most one line and goes on
 pub record Stepped (a b : List ℕ) (i j : ℕ) (s : Step) : Type 0 where
-  pub goes_on : merged_from a b i j ≡ lines_of s ++ merged_from a b s.i s.j
+  pub goes_on : merged_from a b i j ≡ lines_in s.line ++ merged_from a b s.i s.j
   pub onward : i + j < s.i + s.j
   pub first_within : s.i ≤ cycles_said a
   pub second_within : s.j ≤ cycles_said b

@@ -4,26 +4,32 @@ ghost use Rattle.book.specs.Layout.{cycles_said, instant_at};
 ghost use Rattle.book_parts.specs.Parts.{Entered};
 ghost use Rattle.book_compare.specs.Differences.{only_first, only_second};
 ghost use Rattle.book_compare.specs.Answer.{table_length};
-ghost use Rattle.book_compare.specs.Merge.{Placed, step_to, past_both, step_numbers, Stepped, PutPromise};
+ghost use Rattle.book_compare.specs.Merge.{Placed, step_to, past_both, line_numbers, Stepped, PutPromise};
 
 use crate::bodies;
 use cycle::CYCLE;
 
-// The cases of a line.
+// The cases of a line, as the table holds them: C reads them there.
 const ONLY_FIRST: u64 = 1;
 
 const ONLY_SECOND: u64 = 2;
 
 const IN_BOTH: u64 = 3;
 
-// A step: the cycles to come, and a line; case 0 for none.
+// A line of the table.
+#[derive(Clone, Copy)]
+pub(crate) struct Line {
+    instant: u64,
+    case: u64,
+    place: u64,
+}
+
+// A step: the cycles to come, and a line if the step gives one.
 #[derive(Clone, Copy)]
 pub(crate) struct Step {
     i: u64,
     j: u64,
-    instant: u64,
-    case: u64,
-    place: u64,
+    line: Option<Line>,
 }
 
 // Puts every line into the table and answers how many there are.
@@ -39,22 +45,22 @@ pub(crate) fn put_lines(first: &[u8], second: &[u8], table: &mut [u64]) -> u64
         let s = next_step(first, second, i, j);
         i = s.i;
         j = s.j;
-        if s.case != 0 {
-            put_line(table, k, s);
+        if let Some(line) = s.line {
+            put_line(table, k, line);
             k += 1;
         }
     }
     k as u64
 }
 
-fn put_line(table: &mut [u64], k: usize, s: Step)
+fn put_line(table: &mut [u64], k: usize, line: Line)
     requires { 3 * k + 3 ≤ length table.old }
-    ensures { table.new ≡ take (3 * k) table.old ++ (step_numbers s ++ drop (3 * k + 3) table.old) }
+    ensures { table.new ≡ take (3 * k) table.old ++ (line_numbers line ++ drop (3 * k + 3) table.old) }
 {
     let at = 3 * k;
-    table[at] = s.instant;
-    table[at + 1] = s.case;
-    table[at + 2] = s.place;
+    table[at] = line.instant;
+    table[at + 1] = line.case;
+    table[at + 2] = line.place;
 }
 
 // The next step, of which one book or both have a cycle to come.
@@ -96,9 +102,11 @@ fn past_first(i: u64, j: u64, instant: u64) -> Step
     Step {
         i: i + 1,
         j: j,
-        instant: instant,
-        case: ONLY_FIRST,
-        place: 0,
+        line: Some(Line {
+            instant: instant,
+            case: ONLY_FIRST,
+            place: 0,
+        }),
     }
 }
 
@@ -109,9 +117,11 @@ fn past_second(i: u64, j: u64, instant: u64) -> Step
     Step {
         i: i,
         j: j + 1,
-        instant: instant,
-        case: ONLY_SECOND,
-        place: 0,
+        line: Some(Line {
+            instant: instant,
+            case: ONLY_SECOND,
+            place: 0,
+        }),
     }
 }
 
@@ -124,16 +134,16 @@ fn past_both(i: u64, j: u64, instant: u64, place: usize) -> Step
         return Step {
             i: i + 1,
             j: j + 1,
-            instant: 0,
-            case: 0,
-            place: 0,
+            line: None,
         };
     }
     Step {
         i: i + 1,
         j: j + 1,
-        instant: instant,
-        case: IN_BOTH,
-        place: place as u64,
+        line: Some(Line {
+            instant: instant,
+            case: IN_BOTH,
+            place: place as u64,
+        }),
     }
 }

@@ -14,4 +14,4 @@ bounds-table-at-3 c = simp length-set (omega arith)
 pub returns : goal.returns
 returns c =
     let a = c.args in
-    put_three a.table.now (3 * a.k) a.s.instant a.s.case a.s.place c.requires
+    put_three a.table.now (3 * a.k) a.line.instant a.line.case a.line.place c.requires

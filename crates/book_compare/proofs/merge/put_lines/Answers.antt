@@ -2,6 +2,7 @@ use native.Mathlib.Omega.{arith}
 use Rattle.book.proofs.Headers.{count-is, few_cycles}
 use Rattle.book_compare.proofs.Merging.{begun, no_line, one_line, ended, placed_on}
 use borrow.Author.Rules.{rules}
+use Rattle.std.proofs.Common.{◌≡◌, None}
 use Rattle.book_compare.proofs.merge.put_lines.Goals as goal
 
 pub overflow_add-end : goal.overflow_add-end
@@ -47,20 +48,20 @@ overflow_add-k c =
     let lines = c.loop-i.invariant in
     omega arith
 
-pub loop-i-smaller-then-s-ne0 : goal.loop-i-smaller-then-s-ne0
-loop-i-smaller-then-s-ne0 c =
+pub loop-i-smaller-in-Some : goal.loop-i-smaller-in-Some
+loop-i-smaller-in-Some c =
     let on = c.next_step-s.ensures in
     let more = c.loop-i-test.true in
     omega arith
 
-pub loop-i-preserved-then-s-ne0 : goal.loop-i-preserved-then-s-ne0
-loop-i-preserved-then-s-ne0 c =
+pub loop-i-preserved-in-Some : goal.loop-i-preserved-in-Some
+loop-i-preserved-in-Some c =
     let on = c.next_step-s.ensures in
     let lines = c.loop-i.invariant in (
       placed_on _ _ _ _ _ lines.0 on,
       omega arith,
       search rules,
-      one_line _ _ _ _ _ _ _ _ on lines.3 c.if-s-ne0.true _ c.put_line.ensures,
+      one_line _ _ _ _ _ _ _ _ on lines.3 _ c.in-Some.is _ c.put_line.ensures,
     )
 
 pub loop-i-smaller : goal.loop-i-smaller
@@ -73,7 +74,8 @@ pub loop-i-preserved : goal.loop-i-preserved
 loop-i-preserved c =
     let on = c.next_step-s.ensures in
     let lines = c.loop-i.invariant in
-    (placed_on _ _ _ _ _ lines.0 on, omega arith, lines.2, no_line _ _ _ _ _ _ _ _ on lines.3 c.if-s-ne0.false)
+    let none : c.next_step-s.result.line ≡ None = search rules in
+    (placed_on _ _ _ _ _ lines.0 on, omega arith, lines.2, no_line _ _ _ _ _ _ _ _ on lines.3 none)
 
 pub returns : goal.returns
 returns c =
