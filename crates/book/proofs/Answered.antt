@@ -1,5 +1,5 @@
 -- Lines of refusals, by the answer that they give: `Ok` where none holds, and else the first that holds. Assumes nothing.
-use Rattle.std.proofs.Common.{◌≡◌, refl, ◌∙◌, Bool, true, false, cond, List, [], ◌∷◌, ◌++◌, ℕ, Result, Ok, Err, IsOk}
+use Rattle.std.proofs.Common.{◌≡◌, refl, Bool, true, false, cond, List, [], ◌∷◌, ◌++◌, Result, Ok, Err, IsOk}
 use Rattle.base.specs.declared.refusal.Refusal.{Refusal}
 use Rattle.base.specs.Refusals.{number, number_of, Line, answered, refusal}
 use Rattle.base.proofs.Lines.{NoneHolds, positive, answered-given, ok-none}

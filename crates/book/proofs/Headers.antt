@@ -1,5 +1,5 @@
 -- The header of a book: what its size tells, and each way out of the entries that say what it holds. Assumes nothing.
-use Rattle.std.proofs.Common.{◌≡◌, refl, sym, ap, ◌∙◌, Bool, true, false, cond, not, ◌&&◌, List, ℕ, ◌≤◌, ◌<◌, Result, Ok, Err}
+use Rattle.std.proofs.Common.{◌≡◌, refl, sym, ap, ◌∙◌, Bool, true, false, cond, not, ◌&&◌, List, ℕ, ◌≤◌, ◌<◌, Ok, Err}
 use native.Mathlib.Omega.{arith}
 use lib.Dec.{leb}
 use lib.ListN.{length}

@@ -1,5 +1,5 @@
 -- The list of faults: the first on each way out of it, its number, and what is known where none holds. Assumes nothing.
-use Rattle.std.proofs.Common.{◌≡◌, refl, sym, ap, ◌∙◌, Bool, true, false, cond, not, List, [], ◌∷◌, ℕ, ◌≤◌, ◌<◌, Option, Some, None, Result, Ok, Err}
+use Rattle.std.proofs.Common.{◌≡◌, refl, sym, ap, ◌∙◌, Bool, true, false, cond, not, List, [], ◌∷◌, ℕ, ◌≤◌, ◌<◌, Some, None, Result, Ok, Err}
 use native.Mathlib.Omega.{arith}
 use lib.Dec.{ltb}
 use lib.ListN.{length}
@@ -13,7 +13,7 @@ use Rattle.base.proofs.Ranges.{none-holds, holds-none}
 use Rattle.time_code.specs.Calendar.{in_span}
 use Rattle.book.specs.declared.faults.Fault.{Fault}
 use Rattle.book.specs.Faults.{Contents, contents, is_sized, bad_body, bad_instant, bad_offset, FaultLine, faults, book_faults, lines_of}
-use Rattle.book.specs.Faults.{accepted, view_refusal, among, entry_faults, fault_at, first_of, first_fault, fault_number}
+use Rattle.book.specs.Faults.{accepted, view_refusal, among, fault_at, first_of, first_fault, fault_number}
 use Rattle.book.specs.Sought.{first_such, unless_found}
 
 -- a fault without its entry

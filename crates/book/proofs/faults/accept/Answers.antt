@@ -1,6 +1,5 @@
 -- `book::faults::accept` meets its contract: the first fault without its entry is the table's answer. Assumes nothing.
 use Rattle.std.proofs.Common.{sym, ap, ◌∙◌}
-use Rattle.base.specs.Refusals.{number_of}
 use Rattle.book.specs.Faults.{fault_number}
 use Rattle.book.proofs.Ways.{without_entry, view_number, view_answer}
 use Rattle.book.proofs.faults.accept.Goals as goal

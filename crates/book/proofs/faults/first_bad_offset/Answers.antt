@@ -1,5 +1,5 @@
 -- `book::faults::first_bad_offset` meets its contract: a search from the lowest on. Assumes nothing.
-use Rattle.std.proofs.Common.{◌≡◌, true, false, ◌/◌, length, rules}
+use Rattle.std.proofs.Common.{◌≡◌, true, false, rules}
 use Rattle.std.proofs.lemmas.Iterator.{first_from_Range}
 use Rattle.book.specs.Faults.{contents, bad_offset}
 use Rattle.book.proofs.Searches.{found}

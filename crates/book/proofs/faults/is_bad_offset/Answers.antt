@@ -1,6 +1,4 @@
 -- `book::faults::is_bad_offset` meets its contract: the stored offset against where the body starts. Assumes nothing.
-use Rattle.std.proofs.Common.{◌≡◌, sym, ap, ◌∙◌, not}
-use native.Mathlib.Omega.{arith}
 use Rattle.book.proofs.Tests.{offset-tested}
 use Rattle.book.proofs.faults.is_bad_offset.Goals as goal
 

@@ -1,6 +1,6 @@
 -- `book::header::read_header` meets its contract: 16 is all that is tested. Assumes nothing.
 use Rattle.std.proofs.Common.{sym, ◌∙◌}
-use Rattle.book.proofs.Headers.{has_header, header_there, header_refused, said}
+use Rattle.book.proofs.Headers.{has_header, header_refused, said}
 use Rattle.book.proofs.header.read_header.Goals as goal
 
 pub returns-then-not-has_size : goal.returns-then-not-has_size
