@@ -90,6 +90,8 @@ fn write_number(rt: &impl Print, operands: &[u8], n: usize) -> io::Result<()>
     written(rt, out, answer)
 }
 
+// The double of 64 bits. double_vectors makes the same test where it writes a NaN: one function of both is no plainer,
+// for a public one has a contract and edits of its own.
 fn double(pattern: u64) -> f64 {
     if INFINITY < pattern % 0x8000_0000_0000_0000 {
         return 0.0 / 0.0;

@@ -26,7 +26,7 @@ pub const TICKS_PER_HOUR: u64 = 60 * TICKS_PER_MINUTE;
 pub const TICKS_PER_DAY: u64 = 24 * TICKS_PER_HOUR;
 
 // Writes the code of a spacecraft number and an instant. Nothing is written where it does not fit: other than seven bytes are lent, the spacecraft is
-// above 15 or the day above 366.
+// above 15 or the day above 366. It takes a slice: an array of seven bytes would ask more of its callers.
 pub fn put(out: &mut [u8], spacecraft: u64, instant: u64)
     ensures { out.new ≡ put_after spacecraft instant out.old }
 {

@@ -59,7 +59,8 @@ fn two_digits(b: u8) -> u64
     high(b) * 10 + low(b)
 }
 
-// Every half byte but the first and the last is a decimal digit.
+// Every half byte but the first and the last is a decimal digit. Written out: `iter().all` over the middle bytes is
+// no plainer, for its proof would name each half byte again.
 fn is_decimal(code: &[u8; 7]) -> bool
     ensures { result ≡ decimal code.now 1 12 }
 {

@@ -1,4 +1,4 @@
--- `float1750::encode` meets its contract: where it answers 0 the word that it stored reads as x, and where it answers 11 nothing does.
+-- `float1750::encode` meets its contract: where it is `Ok` the word that it stored reads as x, and where no word is found nothing does.
 -- Its tests take the parts of a word's bit pattern apart (`proofs/Encoding.antt`). Assumes nothing.
 use mathlib.Core.Path.{sym, ◌∙◌, subst}
 use Prim.Native.Nat.{◌^◌, ◌<◌}
@@ -12,7 +12,7 @@ use Rattle.float1750.specs.Double.{bits_of}
 use Rattle.float1750.proofs.Encoding.{Wordless, unread, nan_unread, ragged, too_low, too_high}
 use Rattle.float1750.proofs.Encoding.{sign_bit, magnitude_in, biased_in, Passed, passed-normal, passed-pattern}
 use Rattle.float1750.proofs.RoundTrip.{read_back, zero-back}
-use Rattle.float1750.proofs.Promises.{Answered, wrong-area, refused, written}
+use Rattle.float1750.proofs.Promises.{Answered, refused, written}
 use Rattle.float1750.proofs.encode.Goals as goal
 use Rattle.float1750.proofs.encode.Goals.{Else-bits-eq0, Else-level-ge-END_LEVEL, Start}
 
@@ -31,11 +31,6 @@ refuses c wordless =
 passed : (c : Else-level-ge-END_LEVEL) → Passed (bits_of c.args.x)
 passed c =
     record { below = below (goal.at.Else-level-ge-END_LEVEL c).Start; even = c.if-rest-ne0.false; low = c.if-units-sign.false; high = c.if-level-ge-END_LEVEL.false }
-
-pub returns-then-out-ne-WORD_LENGTH : goal.returns-then-out-ne-WORD_LENGTH
-returns-then-out-ne-WORD_LENGTH c =
-    let p = wrong-area c.args.x c.args.out.now c.if-out-ne-WORD_LENGTH.true in
-    record { answer = p.answer; promise = p.promise }
 
 pub returns-then-is_nan : goal.returns-then-is_nan
 returns-then-is_nan c =
@@ -76,9 +71,6 @@ pub twos_complement-requires : goal.twos_complement-requires
 twos_complement-requires c =
     let N = passed-normal _ (passed (goal.at.twos_complement-requires c).Else-level-ge-END_LEVEL) in
     (omega (arith, N.least), omega (arith, N.bit, N.most))
-
-pub word_of-requires-2 : goal.word_of-requires-2
-word_of-requires-2 c = (c.twos_complement.ensures.1, omega arith)
 
 pub returns : goal.returns
 returns c =
