@@ -8,7 +8,7 @@ use borrow.Author.Tests.{ne_eqb, le-leb, lt-leb}
 use Rattle.base.specs.Numbers.{big_endian}
 use Rattle.base.specs.declared.refusal.Refusal.{Refusal}
 use Rattle.base.specs.declared.refusal.Refusal.TheVariants.{WrongLength, YearOutsideSpan, TimeOutOfRange, UpperBitsSet}
-use Rattle.base.specs.Refusals.{Line, ◌when◌, answered, refusal, number_of}
+use Rattle.base.specs.Refusals.{Line, ◌when◌, answered, number_of}
 use Rattle.base.proofs.Lines.{answered-of, numbered}
 use Rattle.float1750.specs.Codec as number-codec
 use Rattle.float1750.specs.Double.{Exact}
@@ -25,7 +25,7 @@ use Rattle.word72_items.specs.ItemTable.{suits}
 use Rattle.word72_reading.specs.declared.EightFlags.{EightFlags}
 use Rattle.word72_reading.specs.declared.Reading.{Reading}
 use Rattle.word72_reading.specs.declared.Reading.TheVariants.{Count, Flags, Number, Time, Fill}
-use Rattle.word72_reading.specs.Values.{Value, count, flags, number, time, fill, bits, value_of}
+use Rattle.word72_reading.specs.Values.{Value, count, number, fill, bits, value_of}
 use Rattle.word72_reading.specs.Readings.{value_in, values_of, flags_of, reading_of, suited_reading, read_as_lines, read_as}
 use Rattle.word72_reading.specs.Promise.{ReadAsPromise, SuitedPromise, InAnyYear}
 

@@ -2,7 +2,6 @@
 -- Assumes nothing.
 use Rattle.std.proofs.Common.{◌≡◌, true, sym, ◌∙◌, length}
 use lib.Dec.{T}
-use Rattle.time_code.specs.Calendar.{in_span}
 use Rattle.word72_items.specs.ItemTable.{suits}
 use Rattle.word72_reading.proofs.Bytes.{wrong-length, out-of_span, in_full}
 use Rattle.word72_reading.proofs.read_as.Goals as goal
