@@ -1,6 +1,5 @@
 // What is written of a stream.
 use crate::Reading;
-use base::wide;
 use labelling::{Framing, Groups, Operators, Runs, Tally};
 use std::io;
 use vectors::{bit, checksum, fields};
@@ -13,7 +12,7 @@ pub(crate) fn heading(
     rule: u64,
     refusal: u8,
 ) -> io::Result<()> {
-    let numbers = [length as u64, piece as u64, rule, wide(refusal)];
+    let numbers = [length as u64, piece as u64, rule, u64::from(refusal)];
     fields(
         rt,
         b"stream of # bytes in pieces of # by rule # refused #\n",
@@ -88,8 +87,8 @@ fn kept(rt: &impl Print, t: Tally) -> io::Result<()> {
         bit(t.framing.hunting),
         t.framing.matched,
         bit(t.framing.erasure),
-        wide(t.groups.first),
-        wide(t.groups.second),
+        u64::from(t.groups.first),
+        u64::from(t.groups.second),
         checksum(&frame),
     ];
     fields(

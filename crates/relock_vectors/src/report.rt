@@ -1,7 +1,6 @@
 // What is written of a reel.
 use crate::Reading;
 use base::refusal::Refusal;
-use base::wide;
 use labelling::{Framing, Groups, Runs, Tally};
 use std::io;
 use vectors::{bit, checksum, fields};
@@ -78,8 +77,8 @@ fn kept(rt: &impl Print, t: Tally) -> io::Result<()> {
         bit(t.framing.hunting),
         t.framing.matched,
         bit(t.framing.erasure),
-        wide(t.groups.first),
-        wide(t.groups.second),
+        u64::from(t.groups.first),
+        u64::from(t.groups.second),
         checksum(&frame),
     ];
     fields(

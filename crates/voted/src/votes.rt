@@ -7,7 +7,6 @@ ghost use Rattle.voted.specs.Copies.{Copies, copies, copies_at, IsVoted, word_of
 
 use crate::fill;
 use base::format::SYNC;
-use base::wide;
 use labelling::Weak;
 
 // A count of each two copies that are equal, first and second lowest, then first and third: side by side in one number, so that a loop adds up one.
@@ -45,7 +44,7 @@ pub(crate) fn agreed(a: u8, b: u8, c: u8) -> u64
 pub(crate) fn side_by_side(x: u8, y: u8, z: u8) -> u64
     ensures { result ≡ side_by_side x y z }
 {
-    wide(x) + OUTER * wide(y) + LAST * wide(z)
+    u64::from(x) + OUTER * u64::from(y) + LAST * u64::from(z)
 }
 
 // Its word, where at least two copies are equal.
@@ -88,7 +87,7 @@ pub(crate) fn see(piece: &[u8], at: usize) -> Seen
 fn apart(a: u8, b: u8, c: u8) -> u64
     ensures { IsVoted (copies a b c) → result ≡ 0 }
 {
-    (wide(a) ^ wide(b)) * (wide(a) ^ wide(c)) * (wide(b) ^ wide(c))
+    (u64::from(a) ^ u64::from(b)) * (u64::from(a) ^ u64::from(c)) * (u64::from(b) ^ u64::from(c))
 }
 
 // Whether a group of which two copies are equal stands here.

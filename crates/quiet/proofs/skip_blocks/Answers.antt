@@ -37,8 +37,8 @@ loop-at-preserved c =
     let syncs = count_by is_sync (block p k.at 64) in
     let none = ltb-false 0 syncs (sym c.has_sync.ensures ∙ c.if-has_sync.false) in
     let stray = c.not_fill.ensures in
-    let wide_is = c.wide-stray.ensures ∙ stray.0 in
-    (quiet_join k.invariant.0 (rw wide_is (block-quiet p k.at 64 (omega arith) (omega arith))), omega arith, omega (arith, stray.1, c.wide-stray.ensures))
+    let from_is = c.from-stray.ensures ∙ stray.0 in
+    (quiet_join k.invariant.0 (rw from_is (block-quiet p k.at 64 (omega arith) (omega arith))), omega arith, omega (arith, stray.1, c.from-stray.ensures))
 
 pub returns : goal.returns
 returns c = c.loop-at.invariant.0

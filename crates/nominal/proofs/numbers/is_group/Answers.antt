@@ -4,4 +4,4 @@ use Rattle.nominal.proofs.Digits.{group_test}
 use Rattle.nominal.proofs.numbers.is_group.Goals as goal
 
 pub returns : goal.returns
-returns c = group_test c.args.x c.wide.result c.wide.ensures (omega arith) c.four.ensures c.requires
+returns c = group_test c.args.x c.from.result c.from.ensures (omega arith) c.four.ensures c.requires

@@ -6,6 +6,6 @@ use Rattle.nominal.proofs.numbers.is_pair.Goals as goal
 pub returns : goal.returns
 returns c =
     let e = c.eight.ensures in
-    let w = c.wide in
-    let v = c.wide-2 in
+    let w = c.from in
+    let v = c.from-2 in
     pair_test c.args.x w.result w.ensures (omega arith) e c.args.y v.result v.ensures (omega arith) c.requires
