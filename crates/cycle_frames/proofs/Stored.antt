@@ -1,5 +1,5 @@
 -- What the frame store does with a frame behind those that are held, and what `next` then promises. Assumes nothing.
-use Rattle.std.proofs.Common.{◌≡◌, refl, sym, ap, ◌∙◌, Bool, true, false, cond, List, ℕ, zero, suc, ◌+◌, ◌^◌, ◌<◌, Result, Ok, Err}
+use Rattle.std.proofs.Common.{◌≡◌, refl, sym, ap, ◌∙◌, Bool, true, false, List, ℕ, zero, suc, ◌+◌, ◌^◌, ◌<◌, Result, Ok, Err}
 use native.Mathlib.Omega.{arith}
 use borrow.Author.Tests.{eqb-true, ne_eqb}
 use lib.Dec.{eqb}
@@ -8,7 +8,7 @@ use Rattle.base.specs.declared.refusal.Refusal.{Refusal}
 use Rattle.base.specs.declared.refusal.Refusal.TheVariants.{WrongLength, BitsBeyondSlots}
 use Rattle.base.specs.Refusals.{number_of}
 use Rattle.base.proofs.Lines.{numbered, ok-none}
-use Rattle.cycle.specs.Cycle.{is_frame, is_cycle}
+use Rattle.cycle.specs.Cycle.{is_cycle}
 use Rattle.frame_store.specs.Slots.{is_in_use, lowest, with_frame}
 use Rattle.frame_store.specs.Answers.{stored_in, stored, store_leaves}
 use Rattle.cycle_frames.specs.declared.Brought.{Brought}

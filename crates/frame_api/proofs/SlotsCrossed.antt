@@ -1,5 +1,5 @@
 -- What `frame_store::store` promises of an answer, said of what crosses. Assumes nothing.
-use Rattle.std.proofs.Common.{◌≡◌, refl, sym, ap, ◌∙◌, List, ℕ, Result, Ok, Err}
+use Rattle.std.proofs.Common.{refl, sym, ◌∙◌, List, ℕ, Ok, Err}
 use lib.ListN.{length}
 use Rattle.base.specs.declared.refusal.Refusal.{Refusal}
 use Rattle.base.specs.Refusals.{number}

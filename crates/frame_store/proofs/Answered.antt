@@ -1,11 +1,10 @@
 -- What each call answers and leaves where it is accepted, and where it is refused. Assumes nothing.
-use Rattle.std.proofs.Common.{◌≡◌, refl, ap, ◌∙◌, List, [], ℕ, suc, ◌+◌, ◌-◌, ◌^◌, Result, Ok, Err}
+use Rattle.std.proofs.Common.{◌≡◌, refl, ap, ◌∙◌, List, [], ℕ, suc, ◌+◌, ◌-◌, ◌^◌, Ok, Err}
 use native.Mathlib.Omega.{arith}
 use lib.ListN.{length}
 use Rattle.base.specs.declared.refusal.Refusal.{Refusal}
 use Rattle.base.specs.Refusals.{Line, permitted, given_or}
 use Rattle.base.proofs.Lines.{NoneHolds, answered-given, refused-is}
-use Rattle.frame_store.specs.declared.Stored.{Stored}
 use Rattle.frame_store.specs.Slots.{slots, start, slot_bytes, with_frame, lowest_free}
 use Rattle.frame_store.specs.Answers.{store_lines, store_refusal, stored_in, stored, slot_in, bits_in, store_leaves}
 use Rattle.frame_store.specs.Answers.{slot_lines, slot_refusal, released, part_of, start_of}
@@ -84,10 +83,6 @@ module _ (area : List ℕ) (bits i : ℕ) where
     pub part-refused : part_of area bits i ≡ []
     unfolding part_of
     part-refused = refused-is [] (slot_bytes i area) slot_lines_here z
-
-    pub start-refused : start_of area bits i ≡ 0
-    unfolding start_of
-    start-refused = refused-is 0 (start i) slot_lines_here z
 
 -- a refused call does nothing to a slot
 pub deed-refused : (c : Call) (n : ℕ) → refusal_of c ≡ suc n → deed c ≡ nothing

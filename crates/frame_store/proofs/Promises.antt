@@ -1,12 +1,11 @@
 -- Each promise, by its ways out. Assumes nothing.
-use Rattle.std.proofs.Common.{◌≡◌, refl, sym, ap, ◌∙◌, List, [], ℕ, suc, ◌+◌, ◌-◌, ◌^◌, ◌≤◌, Result, Ok, Err, Bor}
+use Rattle.std.proofs.Common.{◌≡◌, refl, sym, ap, ◌∙◌, List, ℕ, suc, ◌+◌, ◌-◌, ◌^◌, ◌≤◌, Ok, Err, Bor}
 use native.Mathlib.Omega.{arith}
 use lib.ListN.{length}
 use Rattle.base.specs.declared.refusal.Refusal.{Refusal}
 use Rattle.base.specs.Format.{major_frame}
 use Rattle.base.specs.Refusals.{number, permitted}
 use Rattle.base.proofs.Lines.{positive}
-use Rattle.frame_store.specs.declared.Stored.{Stored}
 use Rattle.frame_store.specs.Slots.{slots, start, slot_bytes, with_frame, lowest_free}
 use Rattle.frame_store.specs.Answers.{store_lines, slot_lines, stored_in, store_refusal, slot_refusal}
 use Rattle.frame_store.specs.Calls.{storing, releasing, reading, accepted, refused}
@@ -14,7 +13,7 @@ use Rattle.frame_store.specs.Promise.{StorePromise, ReleasePromise, SlotPromise}
 use Rattle.frame_store.proofs.Areas.{slot-length, there, elsewhere}
 use Rattle.frame_store.proofs.Refusals.{refuses, to-granted, room, Storable, to-storable}
 use Rattle.frame_store.proofs.Answered.{stored-taken, bits-taken, leaves_taken, stored_refused, leaves_refused}
-use Rattle.frame_store.proofs.Answered.{released-taken, bits-freed, released-refused, part-taken, start-taken, part-refused, start-refused}
+use Rattle.frame_store.proofs.Answered.{released-taken, bits-freed, released-refused, part-taken, start-taken, part-refused}
 use Rattle.frame_store.proofs.Keeping.{kept}
 
 -- a refusal's number follows another

@@ -4,7 +4,7 @@
 use Rattle.std.proofs.Common.{◌≡◌, refl, sym, ap, ◌∙◌, Bool, true, false, cond, not, ◌&&◌, List, [], ◌∷◌, ◌++◌, ℕ, suc, ◌+◌, ◌-◌, ◌*◌, ◌/◌, ◌%◌, ◌^◌, ◌≤◌, ◌<◌, Result, Ok, Err}
 use native.Mathlib.Nat.{div-lt_iff_lt-mul, le-div_iff_mul-le, pow-succ'}
 use native.Mathlib.Omega.{arith}
-use borrow.Author.Tests.{eqb-true, eqb-false, leb-true, leb-false, ltb-true, not-false, lt-ltb, le-ltb, le-leb, lt-leb, eq-eqb, ne_eqb}
+use borrow.Author.Tests.{eqb-true, eqb-false, leb-true, leb-false, ltb-true, not-false, lt-ltb, le-leb, lt-leb, eq-eqb, ne_eqb}
 use lib.Dec.{eqb, leb, ltb}
 use lib.ListN.{length}
 use lib.Pow.{pow_pos}
@@ -133,9 +133,6 @@ module _ (size bits : ℕ) where
 
   pub room : (i : ℕ) → Granted i → i * major_frame + major_frame ≤ size
   room i g = omega (arith, g.there, g.fitting.whole.exact)
-
-  pub slot-beyond : (i : ℕ) → Fitting → slots size ≤ i → Err NoSuchSlot ≡ permitted (slot_lines size bits i)
-  slot-beyond i g h = rw (is_whole size g.whole, lt-leb _ bits g.below, le-ltb i (slots size) h)
 
   pub slot-free : (i : ℕ) → Fitting → is_in_use bits i ≡ false → Err NoSuchSlot ≡ permitted (slot_lines size bits i)
   slot-free i g h = rw (is_whole size g.whole, lt-leb _ bits g.below, h) (either (ltb i (slots size)))

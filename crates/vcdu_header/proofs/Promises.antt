@@ -9,7 +9,7 @@ use lib.Seq.{get_or-set_other}
 use borrow.Author.Tests.{eq-eqb, ne_eqb, eqb-true}
 use Rattle.base.specs.declared.refusal.Refusal.{Refusal}
 use Rattle.base.specs.declared.refusal.Refusal.TheVariants.{NotAHeader, NoCodeWord}
-use Rattle.base.specs.Refusals.{answered, refusal, number_of}
+use Rattle.base.specs.Refusals.{answered, refusal}
 use Rattle.base.proofs.Lines.{told}
 use Rattle.header_code.specs.Field.{◌⊕◌}
 use Rattle.header_code.specs.Code.{Word, add, weight, Near, the_only}

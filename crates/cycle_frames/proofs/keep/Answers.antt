@@ -7,7 +7,7 @@ use Rattle.cycle_frames.specs.declared.Brought.{Brought}
 use Rattle.cycle_frames.specs.Gathering.{bits_of, held_in}
 use Rattle.cycle_frames.proofs.Stored.{StoresAt, stores_at, kept_whole, kept_more}
 use Rattle.cycle_frames.proofs.keep.Goals as goal
-use Rattle.cycle_frames.proofs.keep.Goals.{After-store, In_ok-stored}
+use Rattle.cycle_frames.proofs.keep.Goals.{After-store}
 
 -- where the store puts the frame
 placed : (s : After-store) → let a = s.args in StoresAt a.area.now a.frame.now (held_in a.bits) a.bits

@@ -3,7 +3,7 @@ use Rattle.std.proofs.Common.{sym, ◌∙◌}
 use native.Mathlib.Omega.{arith}
 use Rattle.frame_store.specs.Answers.{area_lines}
 use Rattle.frame_store.proofs.Bits.{bit-clear, bit-set}
-use Rattle.frame_store.proofs.Refusals.{permits, Fitting, to-fitting, slot-beyond, slot-free, is_granted}
+use Rattle.frame_store.proofs.Refusals.{permits, Fitting, to-fitting, slot-free, is_granted}
 use Rattle.frame_store.proofs.permit_slot.Goals as goal
 use Rattle.frame_store.proofs.permit_slot.Goals.{In_ok-permit}
 
