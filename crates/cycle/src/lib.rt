@@ -21,14 +21,12 @@ pub fn is_cycle(year: u64, body: &[u8]) -> bool
     if body.len() != CYCLE {
         return false;
     }
-    let mut kind: usize = 0;
-    while kind < KINDS {
+    for kind in 0..KINDS {
         let start = format::MAJOR_FRAME * kind;
         let end = start + format::MAJOR_FRAME;
         if !is_major(year, kind, &body[start..end]) {
             return false;
         }
-        kind += 1;
     }
     true
 }
@@ -59,24 +57,19 @@ fn is_major(year: u64, kind: usize, frame: &[u8]) -> bool
     requires { length frame.now ≡ 16384 }
     ensures { result ≡ is_major year kind frame.now }
 {
-    if all_numbered(frame) {
-        return is_kind(year, kind as u64, frame);
-    }
-    false
+    all_numbered(frame) && is_kind(year, kind as u64, frame)
 }
 
 fn all_numbered(frame: &[u8]) -> bool
     requires { length frame.now ≡ 16384 }
     ensures { result ≡ all_numbered frame.now }
 {
-    let mut number: usize = 0;
-    while number < MINOR_FRAMES {
+    for number in 0..MINOR_FRAMES {
         let start = format::MINOR_FRAME * number;
         let end = start + format::MINOR_FRAME;
         if !is_numbered(&frame[start..end], number) {
             return false;
         }
-        number += 1;
     }
     true
 }
@@ -95,7 +88,7 @@ fn is_numbered(minor: &[u8], number: usize) -> bool
 fn is_number(b: u8, number: usize) -> bool
     ensures { result ≡ eqb b number }
 {
-    b as usize == number
+    usize::from(b) == number
 }
 
 // Whether the column of a major frame has this kind.
@@ -131,8 +124,5 @@ fn time_bytes(body: &[u8]) -> [u8; 7]
 fn byte_at(bytes: &[u8], place: usize) -> u8
     ensures { result ≡ get_or bytes.now place 0 }
 {
-    if place < bytes.len() {
-        return bytes[place];
-    }
-    0
+    bytes.get(place).copied().unwrap_or(0)
 }

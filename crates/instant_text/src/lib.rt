@@ -46,17 +46,8 @@ fn put_padded(out: &mut [u8], at: usize, n: u64, width: usize) -> usize
 {
     let mut digits = [0u8; 20];
     let k = io::decimal(n, &mut digits);
-    let missing = missing_of(width, k);
+    let missing = width.saturating_sub(k);
     let zeros = [b'0'; 8];
     let padded = put(&mut *out, at, &zeros[..missing]);
     put(out, padded, &digits[..k])
-}
-
-fn missing_of(width: usize, k: usize) -> usize
-    ensures { result ≡ width - k }
-{
-    if k < width {
-        return width - k;
-    }
-    0
 }

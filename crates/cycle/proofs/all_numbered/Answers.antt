@@ -3,11 +3,7 @@ use native.Mathlib.Omega.{arith}
 use borrow.Author.Count.{below_more}
 use Rattle.cycle.specs.Cycle.{is_numbered}
 use Rattle.cycle.proofs.Frames.{of_row, one-unnumbered, every-numbered}
-use borrow.Author.Rules.{rules}
 use Rattle.cycle.proofs.all_numbered.Goals as goal
-
-pub loop-number-init : goal.loop-number-init
-loop-number-init c = (omega arith, λ m h. absurd (omega arith))
 
 pub returns-then-not-is_numbered : goal.returns-then-not-is_numbered
 returns-then-not-is_numbered c =
@@ -20,7 +16,7 @@ loop-number-preserved c =
     let frame = c.args.frame.now in
     let m = c.loop-number.number in
     let next = of_row 128 frame is_numbered m _ true c.is_numbered.ensures c.if-not-is_numbered.false in
-    (search rules, below_more _ _ c.loop-number.invariant.1 next)
+    below_more _ _ c.loop-number.invariant next
 
 pub returns : goal.returns
-returns c = every-numbered c.args.frame.now (λ m h. c.loop-number.invariant.1 m (omega arith))
+returns c = every-numbered c.args.frame.now (λ m h. c.loop-number.invariant m (omega arith))

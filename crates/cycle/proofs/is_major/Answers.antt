@@ -7,6 +7,6 @@ pub returns-then-all_numbered : goal.returns-then-all_numbered
 unfolding is_major
 returns-then-all_numbered c = rw (sym c.all_numbered.ensures ∙ c.if-all_numbered.true) c.is_kind.ensures
 
-pub returns : goal.returns
+pub returns-else-all_numbered : goal.returns-else-all_numbered
 unfolding is_major
-returns c = rw (sym c.all_numbered.ensures ∙ c.if-all_numbered.false)
+returns-else-all_numbered c = c.if-all_numbered.false ∙ rw (sym c.all_numbered.ensures ∙ c.if-all_numbered.false)

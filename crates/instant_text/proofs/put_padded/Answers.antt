@@ -11,7 +11,7 @@ use Rattle.instant_text.proofs.put_padded.Goals as goal
 
 pub slice_bounds-put-end : goal.slice_bounds-put-end
 slice_bounds-put-end c =
-    sym (length-take-le c.missing_of-missing.result (replicate 8 0x30) (omega (arith, c.missing_of-missing.ensures, c.requires)))
+    sym (length-take-le c.saturating_sub-missing.result (replicate 8 0x30) (omega (arith, c.saturating_sub-missing.ensures, c.requires)))
 
 pub returns : goal.returns
 unfolding padded
@@ -19,4 +19,4 @@ returns c =
     let digits = c.decimal-k.ensures in
     let text = digits.digits ∙ digits_are c.args.n _ c.ranges.n.fits digits.len in
     let size = sym (digits.in_bounds.1 ∙ ap (λ (l : List ℕ). length l) text) in
-    rw (size, ← c.missing_of-missing.ensures, ← text) (adds_append c.put-padded.ensures c.put.ensures)
+    rw (size, ← c.saturating_sub-missing.ensures, ← text) (adds_append c.put-padded.ensures c.put.ensures)
