@@ -4,18 +4,17 @@ use mathlib.Core.Bool.{Bool, true, false}
 use mathlib.Core.List.{List, [], ◌∷◌, ◌++◌, append-nil, append_assoc}
 use Prim.Native.Nat.{ℕ, ◌+◌, ◌-◌, ◌^◌, ◌≤◌, ◌<◌}
 use native.Mathlib.Nat.{pow-le-pow_right}
-use native.Mathlib.Numerals.{add-one}
 use native.Mathlib.Omega.{arith}
 use lib.Dec.{leb}
-use lib.ListN.{length, take, set, get_or, length-append, length-set}
-use lib.Seq.{take-suc, take-suc-set, length-take-le}
+use lib.ListN.{length, take, length-append}
+use lib.Seq.{length-take-le}
 use borrow.Author.Tests.{leb-true, leb-false}
 use Rattle.base.proofs.Lists.{sum_by-append}
 use Rattle.io.specs.Digits.{last_digits, IsDigitCount}
 use Rattle.labelling.specs.declared.Tally.{Tally}
 use Rattle.tally_text.specs.declared.Text.{Text}
 use Rattle.tally_text.specs.Listing.{ascii, Count, counted, group_counts, frame_counts, run_counts, Lines}
-use Rattle.tally_text.specs.Listing.{none, line, written, Adds, Lined, Room, ListingPromise}
+use Rattle.tally_text.specs.Listing.{none, line, Adds, Lined, ListingPromise}
 
 pub adds_append : {a b c : Text} {xs ys : List ℕ} → Adds a xs b → Adds b ys c → Adds a (xs ++ ys) c
 adds_append {a} {b} {c} {xs} {ys} p q = record {
