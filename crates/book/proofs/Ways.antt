@@ -123,7 +123,7 @@ module _ (c : Contents) where
     -- the three searches
     pub by_searches : is_sized c ≡ true
         → before (unless_found NotACycle (first_such (bad_body c) c.count))
-          (before (unless_found WrongInstant (first_such (bad_instant c) c.count)) (unless_found WrongOffset (first_such (bad_offset c) c.count)))
+        (before (unless_found WrongInstant (first_such (bad_instant c) c.count)) (unless_found WrongOffset (first_such (bad_offset c) c.count)))
         ≡ first
     by_searches z =
         let bodies = unless_found NotACycle (first_such (bad_body c) c.count) in

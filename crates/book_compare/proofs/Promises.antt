@@ -97,7 +97,7 @@ module _ (a b table : List ℕ) where
   clear_none c = (
     ap not (eq-eqb (length table) 1530 c.fits),
     none-both (faults_of a) (faults_of b ++ years_line) (none-of (faults_of a) c.first)
-    (none-both (faults_of b) years_line (none-of (faults_of b) c.second) (ap not (eq-eqb (year_said a) (year_said b) c.years), tt)),
+        (none-both (faults_of b) years_line (none-of (faults_of b) c.second) (ap not (eq-eqb (year_said a) (year_said b) c.years), tt)),
   )
 
   none-clear : NoneHolds lines → Clear a b table

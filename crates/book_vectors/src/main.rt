@@ -207,10 +207,7 @@ fn write(
 
 fn put_written(rt: &impl Print, year: u64, bodies: &[u8], book: &mut [u8]) -> io::Result<()> {
     let answer = book_writer::write(year, bodies, &mut *book);
-    let numbers = [
-        u64::from(refusal::code(answer)),
-        vectors::checksum(book),
-    ];
+    let numbers = [u64::from(refusal::code(answer)), vectors::checksum(book)];
     fields(rt, b"write # sum #\n", &numbers)
 }
 
