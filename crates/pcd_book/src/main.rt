@@ -65,10 +65,9 @@ fn in_small_rooms<R: Env + Input + Print + ErrorOutput>(rt: &R, i: usize) -> boo
 fn gather_small<R: Env + Input + Print + ErrorOutput>(rt: &R, i: usize, bodies: &mut [u8]) -> bool
     requires { Roomy (length bodies.old) }
 {
-    let year = year_argument::year_at(rt, b"pcd-book", i);
-    if year == 0 {
+    let Some(year) = year_argument::year_at(rt, b"pcd-book", i) else {
         return false;
-    }
+    };
     let shelf = gathering::gather(rt, year, &mut *bodies);
     if shelf.failed {
         return false;
@@ -94,10 +93,9 @@ fn in_large_rooms<R: Env + Input + Print + ErrorOutput>(rt: &R, i: usize) -> boo
 fn gather_large<R: Env + Input + Print + ErrorOutput>(rt: &R, i: usize, bodies: &mut [u8]) -> bool
     requires { Roomy (length bodies.old) }
 {
-    let year = year_argument::year_at(rt, b"pcd-book", i);
-    if year == 0 {
+    let Some(year) = year_argument::year_at(rt, b"pcd-book", i) else {
         return false;
-    }
+    };
     let shelf = gathering::gather(rt, year, &mut *bodies);
     if shelf.failed {
         return false;

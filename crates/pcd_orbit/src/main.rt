@@ -13,18 +13,14 @@ const HEADER: [u8; 101] =
     *b"cycle,frame,record,item,unit,value,refusal,instant,year,day,hour,minute,second,millisecond,sixteenth\n";
 
 fn main(rt: HostRuntime) {
-    let year = year_argument::year_at(&rt, b"pcd-orbit", 2);
-    if write_all(&rt, year) {
-        command::end(&rt, 0);
-        return;
-    }
-    command::end(&rt, 1);
+    let whole = match year_argument::year_at(&rt, b"pcd-orbit", 2) {
+        Some(year) => write_all(&rt, year),
+        None => false,
+    };
+    command::end(&rt, if whole { 0 } else { 1 });
 }
 
 fn write_all(rt: &(impl Input + Print + ErrorOutput), year: u64) -> bool {
-    if year == 0 {
-        return false;
-    }
     let header = &HEADER;
     if !command::show(rt, b"pcd-orbit", header) {
         return false;

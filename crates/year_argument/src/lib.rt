@@ -9,8 +9,8 @@ use std::rt::Env;
 
 const WORD: usize = 64;
 
-// The year of an argument, 0 where it names none of 1999 to 2099; a line says so then.
-pub fn year_at(rt: &(impl Env + ErrorOutput), program: &[u8], i: usize) -> u64
+// The year of an argument; none where it names none of 1999 to 2099, and a line says so then.
+pub fn year_at(rt: &(impl Env + ErrorOutput), program: &[u8], i: usize) -> Option<u64>
     ensures { YearPromise result }
 {
     let mut word = [0u8; WORD];
@@ -18,22 +18,16 @@ pub fn year_at(rt: &(impl Env + ErrorOutput), program: &[u8], i: usize) -> u64
     year_in(rt, program, &word[..n])
 }
 
-fn year_in(rt: &impl ErrorOutput, program: &[u8], word: &[u8]) -> u64
+fn year_in(rt: &impl ErrorOutput, program: &[u8], word: &[u8]) -> Option<u64>
     ensures { result ≡ year_in word.now }
 {
-    match command::number(word) {
-        Some(year) => {
-            if time_code::year::in_span(year) {
-                return year;
-            }
-            say_no_year(rt, program, word);
-            return 0;
-        }
-        None => {
-            say_no_year(rt, program, word);
-            return 0;
+    if let Some(year) = command::number(word) {
+        if time_code::year::in_span(year) {
+            return Some(year);
         }
     }
+    say_no_year(rt, program, word);
+    None
 }
 
 fn say_no_year(rt: &impl ErrorOutput, program: &[u8], word: &[u8]) {

@@ -4,8 +4,7 @@ use Rattle.pcd_book.proofs.gather_small.Goals as goal
 
 pub write_small-requires : goal.write_small-requires
 write_small-requires g c =
-    let asked = c.year_at-year in
     let gathered = c.gather-shelf in
-    let span = asked.ensures.in_span_fact c.if-year-eq0.false in
-    bound_front asked.result c.args.bodies.now gathered.new.bodies gathered.result span gathered.ensures
+    let span = c.in-Some.ensures.in_span_fact in
+    bound_front _ c.args.bodies.now gathered.new.bodies gathered.result span gathered.ensures
     gathered.auto.bodies
