@@ -61,7 +61,11 @@ pub fn pcd_clock(cycle: &[u8], year: u64, updated: &mut f64, out: &mut [u64; 3])
     match orbit::clock::read(cycle, year) {
         Ok(c) => {
             *updated = c.updated;
-            *out = [u64::from(c.bias), u64::from(c.rate), u64::from(c.acceleration)];
+            *out = [
+                u64::from(c.bias),
+                u64::from(c.rate),
+                u64::from(c.acceleration),
+            ];
             0
         }
         Err(refusal) => refusal.number(),

@@ -2,9 +2,8 @@
 // that it worked out by other means. One area, of a cycle and 128 bytes more, stays from record to record.
 #![tactic(auto)]
 
-use base::format;
-use base::refusal;
 use base::refusal::Refusal;
+use base::{format, refusal};
 use orbit::attitude::Attitude;
 use orbit::clock::Clock;
 use orbit::ephemeris::Ephemeris;

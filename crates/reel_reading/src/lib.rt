@@ -114,7 +114,13 @@ fn on_piece(reel: Reel, piece: &[u8], whole: bool, area: &mut [u8]) -> Advanced
 }
 
 // One step of the feeder that locks on a frame's own sync; or one call, as far as a complete major frame.
-fn step(strict: bool, f: Feeder, piece: &[u8], ends: bool, area: &mut [u8]) -> Result<Relocked, Refusal>
+fn step(
+    strict: bool,
+    f: Feeder,
+    piece: &[u8],
+    ends: bool,
+    area: &mut [u8],
+) -> Result<Relocked, Refusal>
     ensures { StepPromise strict f piece.now area.old result area.new }
 {
     if strict {

@@ -2,9 +2,9 @@
 // the answers that it worked out by other means.
 #![tactic(auto)]
 
+use base::refusal::{self, Refusal};
 use std::io;
 use std::io::Input;
-use base::refusal::{self, Refusal};
 use subcom::{EightFlags, Form, Item, Reading};
 use vectors::{field, filled, number, put, put_bytes, put_number, put_refusal};
 
@@ -157,10 +157,7 @@ fn ask(rt: &impl Print, year: u64, column: &[u8], kind: u64, item: u64) -> io::R
 // Writes the bytes of an item, none where it is refused, and what they read as.
 fn put_values(rt: &impl Print, year: u64, column: &[u8], kind: u64, item: u64) -> io::Result<()> {
     put(rt, b" [")?;
-    put_bytes(
-        rt,
-        subcom::part(column, kind, item).unwrap_or(&column[..0]),
-    )?;
+    put_bytes(rt, subcom::part(column, kind, item).unwrap_or(&column[..0]))?;
     put(rt, b"] ")?;
     put_reading(rt, subcom::read(year, column, kind, item))
 }

@@ -131,9 +131,5 @@ fn hex_glyph(d: u8) -> u8
     requires { d < 16 }
     ensures { result ≡ hex_digit_ascii d }
 {
-    if d < 10 {
-        b'0' + d
-    } else {
-        b'a' + (d - 10)
-    }
+    if d < 10 { b'0' + d } else { b'a' + (d - 10) }
 }

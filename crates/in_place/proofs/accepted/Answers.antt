@@ -106,10 +106,10 @@ returns c =
     let ready = (goal.at.returns c).After-begin-begun in
     let ran = (goal.at.returns c).After-run-r in
     let so = same ran (begun ready) (state_is ready) in record {
-        numbers_is = c.put_layers.ensures ∙ ap (λ (x : Answer). numbers_of x.tally) so;
-        frame_is = ap (λ (x : Answer). x.tally.frame) so;
-        area_is = ap (λ (x : Answer). x.area) so;
-        taken_is = ap (λ (x : Answer). x.taken) so;
-        complete_is = ap (λ (x : Answer). x.complete) so;
-        sized = subst (λ (x : Answer). Sized x.tally) so (sized ran);
-      }
+      numbers_is = c.put_layers.ensures ∙ ap (λ (x : Answer). numbers_of x.tally) so;
+      frame_is = ap (λ (x : Answer). x.tally.frame) so;
+      area_is = ap (λ (x : Answer). x.area) so;
+      taken_is = ap (λ (x : Answer). x.taken) so;
+      complete_is = ap (λ (x : Answer). x.complete) so;
+      sized = subst (λ (x : Answer). Sized x.tally) so (sized ran);
+    }

@@ -11,6 +11,6 @@ returns-then-in_span g c = rw (sym c.in-Some.ensures, sym c.in_span.ensures ∙ 
 pub returns : goal.returns
 unfolding year_in
 returns g c = elim c.match-number.branch [
-  in-Some+else-in_span w ↦ rw (sym w.in-Some.ensures, sym w.in_span.ensures ∙ w.if-in_span.false)
+  | in-Some+else-in_span w ↦ rw (sym w.in-Some.ensures, sym w.in_span.ensures ∙ w.if-in_span.false)
   | in_default w ↦ rw (sym c.number.ensures ∙ w.in_default.is)
 ]
