@@ -78,7 +78,8 @@ def declared():
 
 def refusals():
     text = open("crates/base/src/refusal.rt", encoding="utf-8").read()
-    return {"PCD_" + name: number for name, number in re.findall(r"^pub const (\w+): u8 = (\d+);$", text, re.M)}
+    cases = re.findall(r"^    (\w+) = (\d+),$", text, re.M)
+    return {"PCD" + re.sub(r"([A-Z])", r"_\1", name).upper(): number for name, number in cases}
 
 
 def places():
