@@ -1,7 +1,6 @@
 // What a program says: lines on standard error, each after the program's name, and data on standard output.
 use crate::text::Text;
 use crate::words::words;
-use base::refusal::Refusal;
 use std::fmt::InlineText;
 use std::io;
 use std::io::IsTerminal;
@@ -60,9 +59,8 @@ fn words_of(text: &str) -> &str {
     }
 }
 
-// The line `PROGRAM: WHAT: refusal N: ` and what the refusal with this number means.
-pub fn refuse(rt: &impl ErrorOutput, program: &[u8], what: &[u8], refusal: Refusal) {
-    let number = refusal.number();
+// The line `PROGRAM: WHAT: refusal N: ` and what the number means.
+pub fn refuse(rt: &impl ErrorOutput, program: &[u8], what: &[u8], number: u8) {
     let mut space = [0u8; WORDS];
     let mut told = Text::new(&mut space);
     told.put(b"refusal ");

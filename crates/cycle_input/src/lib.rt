@@ -59,7 +59,7 @@ fn gather(
         let brought = match cycle_frames::next(year, &mut *area, bits, frame) {
             Ok(brought) => brought,
             Err(refusal) => {
-                command::refuse(rt, program, b"standard input", refusal);
+                command::refuse(rt, program, b"standard input", refusal.number());
                 return ended(true, false, frames);
             }
         };

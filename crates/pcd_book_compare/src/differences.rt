@@ -31,7 +31,7 @@ fn compared(rt: &(impl Print + ErrorOutput), first: &[u8], second: &[u8], table:
     match book_compare::compare(first, second, &mut *table) {
         Ok(n) => show_lines(rt, table, n),
         Err(refusal) => {
-            command::refuse(rt, b"pcd-book-compare", b"the books", refusal);
+            command::refuse(rt, b"pcd-book-compare", b"the books", refusal.number());
             REFUSED
         }
     }

@@ -20,7 +20,7 @@ pub(crate) fn report(
     wanted: u64,
 ) -> bool {
     if let Err(refusal) = book::accept(book) {
-        command::refuse(rt, b"pcd-find", path, refusal);
+        command::refuse(rt, b"pcd-find", path, refusal.number());
         return false;
     }
     let mut space = [0u64; MOST_CYCLES];

@@ -226,7 +226,7 @@ fn begins(shifts: &[u8], k: usize) -> u64 {
 fn refused(rt: &impl ErrorOutput, s: State, refusal: Refusal) -> State
     ensures { SameReel s result }
 {
-    command::refuse(rt, b"pcd-frames", b"the reel", refusal);
+    command::refuse(rt, b"pcd-frames", b"the reel", refusal.number());
     let mut r = s;
     r.done = false;
     r.goes_on = false;

@@ -160,7 +160,7 @@ fn undone(s: State) -> State {
 }
 
 fn refused(rt: &impl ErrorOutput, s: State, refusal: Refusal, cells: &mut [u8]) -> State {
-    command::refuse(rt, b"pcd-map", b"the reel", refusal);
+    command::refuse(rt, b"pcd-map", b"the reel", refusal.number());
     let mut r = ended(s, cells);
     r.done = false;
     r
