@@ -2,8 +2,9 @@
 // in functions of their own, so that the large one is on the stack only while a large book is read.
 ghost use Rattle.std.specs.Prelude.{IfSome};
 ghost use Rattle.io.specs.Counts.{IsPrefixLen};
+ghost use Rattle.command.specs.Files.{filled_to};
 
-use crate::files::fill;
+use crate::files::{ReadFailed, fill};
 use crate::saying::{ErrorOutput, fail};
 use crate::text::put;
 use std::io::Read;
@@ -61,8 +62,8 @@ fn room_for(high: u8, low: u8) -> Room {
     }
 }
 
-// Puts the header into the room and reads the rest behind it, and answers how long the book is; none
-// where it cannot be read, and a line says so.
+// Puts the header into the room and reads the rest behind it, and answers how long the book is. A
+// line says where it cannot be read.
 pub fn read_book(
     rt: &impl ErrorOutput,
     program: &[u8],
@@ -70,15 +71,13 @@ pub fn read_book(
     file: &mut impl Read,
     header: &[u8],
     room: &mut [u8],
-) -> Option<usize>
-    ensures { IfSome result (λ length. IsPrefixLen length room.new) }
+) -> Result<usize, ReadFailed>
+    ensures { IsPrefixLen (filled_to result) room.new }
 {
     let at = put(&mut *room, 0, header);
-    match fill(file, room, at) {
-        Ok(length) => Some(length),
-        Err(failed) => {
-            fail(rt, program, path, failed.error);
-            None
-        }
+    let filled = fill(file, room, at);
+    if let Err(failed) = filled {
+        fail(rt, program, path, failed.error);
     }
+    filled
 }

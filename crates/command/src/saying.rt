@@ -59,7 +59,8 @@ fn words_of(text: &str) -> &str {
     }
 }
 
-// The line `PROGRAM: WHAT: refusal N: ` and what the number means.
+// The line `PROGRAM: WHAT: refusal N: ` and what the number means; nothing for a number that is none:
+// it says any number that it is given, so it takes no `Refusal`.
 pub fn refuse(rt: &impl ErrorOutput, program: &[u8], what: &[u8], number: u8) {
     let mut space = [0u8; WORDS];
     let mut told = Text::new(&mut space);

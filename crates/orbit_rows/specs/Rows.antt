@@ -2,9 +2,7 @@
 -- Definitions only.
 use Rattle.std.specs.Prelude.{cond, List, [], ◌∷◌, ◌++◌, ℕ, ◌/◌, ◌%◌, eqb, Option, Some, None, Result, Ok, Err}
 use Prim.Native.String.{String}
-use Rattle.base.specs.declared.refusal.Refusal.{Refusal}
 use Rattle.base.specs.Lists.{concat_map}
-use Rattle.base.specs.Refusals.{number}
 use Rattle.command.specs.Lines.{line_in}
 use Rattle.command.specs.Text.{ascii, decimal}
 use Rattle.csv_fields.specs.Fields.{number_field}
@@ -70,6 +68,6 @@ abbrev pub end_text : Row → ℕ → List ℕ
 end_text row number = refusal_text number ++ when_text row.year row.instant
 
 -- of a value with this text; a refused record has no value
-abbrev pub row_text : {V : Type 0} → (V → List ℕ) → Row → ℕ → Result V Refusal → List ℕ
+abbrev pub row_text : {V : Type 0} → (V → List ℕ) → Row → ℕ → Result V ℕ → List ℕ
 row_text text row name (Ok value) = (start_text row name ++ text value) ++ end_text row 0
-row_text text row name (Err r) = start_text row name ++ end_text row (number r)
+row_text text row name (Err number) = start_text row name ++ end_text row number

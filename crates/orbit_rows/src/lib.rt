@@ -7,7 +7,6 @@ ghost use Rattle.csv_fields.specs.Fields.{integer_text};
 ghost use Rattle.double_text.specs.Decimal.{double_text};
 ghost use Rattle.orbit_rows.specs.Rows.{pair_text, date_text, clock_text, when_text, refusal_text, start_text, end_text, row_text};
 
-use base::refusal::Refusal;
 use command::{put, put_byte, put_number};
 use csv_fields::put_number_field;
 
@@ -89,13 +88,13 @@ impl Value for i64 {
     }
 }
 
-// The line of a value; of a refused record it has none.
+// The line of a value; of a refused record it has the number in its place, whatever number that is.
 pub fn put_row<V: Value>(
     out: &mut [u8],
     at: usize,
     row: Row,
     name: usize,
-    value: Result<V, Refusal>,
+    value: Result<V, u8>,
 ) -> usize
     ensures { Adds out.old at (row_text V.text row name value) out.new result }
 {
@@ -105,7 +104,7 @@ pub fn put_row<V: Value>(
             let told = v.put(&mut *out, begun);
             put_end(out, told, row, 0)
         }
-        Err(refusal) => put_end(out, begun, row, refusal.number()),
+        Err(number) => put_end(out, begun, row, number),
     }
 }
 

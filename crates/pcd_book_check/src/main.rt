@@ -74,7 +74,7 @@ fn check(
     header: &[u8],
     room: &mut [u8],
 ) -> bool {
-    let Some(n) = command::read_book(rt, b"pcd-book-check", path, file, header, &mut *room) else {
+    let Ok(n) = command::read_book(rt, b"pcd-book-check", path, file, header, &mut *room) else {
         return false;
     };
     verdict::report(rt, path, &room[..n])

@@ -200,5 +200,5 @@ fn read_at(
 {
     let mut path = io::buffer();
     let n = command::argument(rt, i, &mut path);
-    command::read_book(rt, b"pcd-book-compare", &path[..n], file, header, room)
+    command::read_book(rt, b"pcd-book-compare", &path[..n], file, header, room).ok()
 }

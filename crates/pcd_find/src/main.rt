@@ -92,7 +92,7 @@ fn find(
     asked: usize,
     room: &mut [u8],
 ) -> bool {
-    let Some(n) = command::read_book(rt, b"pcd-find", path, file, header, &mut *room) else {
+    let Ok(n) = command::read_book(rt, b"pcd-find", path, file, header, &mut *room) else {
         return false;
     };
     match instant_of(rt, asked) {

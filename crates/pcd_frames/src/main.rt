@@ -49,7 +49,7 @@ fn run_with<R: Env + Files + Input + Clock + Print + ErrorOutput>(
     path: &[u8],
     text: &mut [u8],
 ) -> bool {
-    let Some(k) = shifts::read(rt, b"pcd-frames", path, &mut *text) else {
+    let Ok(k) = shifts::read(rt, b"pcd-frames", path, &mut *text) else {
         return false;
     };
     read_reel(rt, &text[..k])

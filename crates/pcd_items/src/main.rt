@@ -5,7 +5,8 @@
 
 ghost use Rattle.io.specs.Counts.{IsPrefixLen};
 
-use base::{format, refusal};
+use base::format;
+use base::refusal::Refusal;
 use command::ErrorOutput;
 use std::io::Read;
 use std::rt::Env;
@@ -49,7 +50,7 @@ fn show_all<R: Env + std::io::Input + Print + ErrorOutput>(rt: &R) -> bool {
 // The frames of a year; a line says where it is outside the span.
 fn show_year<R: std::io::Input + Print + ErrorOutput>(rt: &R, year: u64, word: &[u8]) -> bool {
     if !time_code::year::in_span(year) {
-        command::refuse(rt, b"pcd-items", word, refusal::YEAR_OUTSIDE_SPAN);
+        command::refuse(rt, b"pcd-items", word, Refusal::YearOutsideSpan.number());
         return false;
     }
     let header = word72_csv::HEADER;

@@ -78,7 +78,8 @@ impl<'a> Cycle<'a> {
     {
         let answer = orbit::clock::read(self.body, self.year);
         let row = self.row(0, None);
-        let updated = put_row(&mut *out, 0, row, CLOCK, answer.map(|c| c.updated));
+        let update = answer.map(|c| c.updated).map_err(Refusal::number);
+        let updated = put_row(&mut *out, 0, row, CLOCK, update);
         let terms = answer.map(|c| [c.bias, c.rate, c.acceleration].map(i64::from));
         put_rows(out, updated, row, CLOCK + 1, terms)
     }
@@ -130,7 +131,8 @@ fn put_rows<V: Value, const N: usize>(
 {
     let mut end = at;
     for i in 0..N {
-        end = put_row(&mut *out, end, row, first + i, values.map(|v| v[i]));
+        let value = values.map(|v| v[i]).map_err(Refusal::number);
+        end = put_row(&mut *out, end, row, first + i, value);
     }
     end
 }

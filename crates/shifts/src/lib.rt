@@ -1,10 +1,10 @@
 // Who is on duty from which byte of a reel on: a text with a line `BYTE OPERATOR` for each shift, by rising bytes.
 #![tactic(auto)]
 
-ghost use Rattle.std.specs.Prelude.{◌<◌, length, IfSome};
+ghost use Rattle.std.specs.Prelude.{◌<◌, length, IfOk};
 ghost use Rattle.command.specs.Text.{Adds};
 ghost use Rattle.io.specs.Counts.{IsPrefixLen};
-ghost use Rattle.shifts.specs.Lines.{fault_text};
+ghost use Rattle.shifts.specs.Lines.{fault_text, bytes_read};
 
 use command::{ErrorOutput, put, put_field};
 use shift_line::{Fault, Shift, shift_of};
@@ -12,20 +12,26 @@ use std::rt::Files;
 
 const LINE: usize = 256;
 
-// Reads the lines of a file and answers how many bytes they have; none where it cannot be read, is
-// longer than the room or has a line that is wrong, and a line on standard error says so.
+// Reads the lines of a file and answers how many bytes they have; as an error where it cannot be
+// read, is longer than the room or has a line that is wrong, and a line on standard error says so.
 pub fn read<R: Files + ErrorOutput>(
     rt: &R,
     program: &[u8],
     path: &[u8],
     text: &mut [u8],
-) -> Option<usize>
-    ensures { IfSome result (λ n. (n < length text.new) × IsPrefixLen n text.new) }
+) -> Result<usize, usize>
+    ensures fits { IfOk result (λ n. n < length text.new) }
+    ensures count { IsPrefixLen (bytes_read result) text.new }
 {
-    let mut file = command::open(rt, program, path)?;
-    let Ok(n) = command::fill(&mut file, &mut *text, 0) else {
-        command::say(rt, program, path, b"the file cannot be read");
-        return None;
+    let Some(mut file) = command::open(rt, program, path) else {
+        return Err(0);
+    };
+    let n = match command::fill(&mut file, &mut *text, 0) {
+        Ok(length) => length,
+        Err(failed) => {
+            command::say(rt, program, path, b"the file cannot be read");
+            return Err(failed.length);
+        }
     };
     if text.len() <= n {
         command::say(
@@ -34,12 +40,12 @@ pub fn read<R: Files + ErrorOutput>(
             path,
             b"the file is longer than its room of 65,535 bytes",
         );
-        return None;
+        return Err(n);
     }
     if !check(rt, program, path, &text[..n]) {
-        return None;
+        return Err(n);
     }
-    Some(n)
+    Ok(n)
 }
 
 // Whether each line is right; the first that is not is told.

@@ -8,4 +8,4 @@ returns-in-Ok g c =
 
 pub returns-in-Err : goal.returns-in-Err
 returns-in-Err g c =
-    rw c.in-Err.is (adds_append c.put_start-begun.ensures (rw c.number.ensures at c.put_end-in-Err.ensures))
+    rw c.in-Err.is (adds_append c.put_start-begun.ensures c.put_end-in-Err.ensures)
