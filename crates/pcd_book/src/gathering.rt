@@ -20,6 +20,8 @@ pub(crate) fn gather(rt: &(impl Input + ErrorOutput), year: u64, bodies: &mut [u
     ensures { GatherPromise year bodies.old bodies.new result }
 {
     let mut shelf = book_shelf::begun();
+    // What standard input brings ends it: a `for` would need a bound that no input reaches and a
+    // second answer behind it.
     loop {
         shelf = turn(rt, year, &mut *bodies, shelf);
         if !shelf.more {

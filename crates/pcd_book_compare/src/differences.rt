@@ -44,17 +44,13 @@ fn show_lines(rt: &(impl Print + ErrorOutput), table: &[u64], n: u64) -> u64
     if n == 0 {
         return 0;
     }
-    let mut at: usize = 0;
-    let mut k: u64 = 0;
-    while k < n {
-        if table.len() - at < 3 {
+    for k in 0..n {
+        let Some(line) = table.chunks_exact(3).nth(k as usize) else {
+            return REFUSED;
+        };
+        if !show_line(rt, line[0], line[1], line[2]) {
             return REFUSED;
         }
-        if !show_line(rt, table[at], table[at + 1], table[at + 2]) {
-            return REFUSED;
-        }
-        at += 3;
-        k += 1;
     }
     DIFFERENT
 }

@@ -5,7 +5,7 @@
 
 mod differences;
 
-ghost use Rattle.std.specs.Prelude.{IfSome};
+ghost use Rattle.std.specs.Prelude.{IfSome, ◌≤◌};
 ghost use Rattle.io.specs.Counts.{IsPrefixLen};
 
 use command::{ErrorOutput, LARGE_ROOM, Room, SMALL_ROOM};
@@ -45,7 +45,7 @@ fn compare_from<R: Env + Files + Print + ErrorOutput>(rt: &R, i: usize, count: u
         let k = a.length;
         let m = b.length;
         match a.room.max(b.room) {
-            Room::Small => status = in_small_rooms(
+            Room::Small => status = in_rooms::<SMALL_ROOM>(
                 rt,
                 i,
                 &mut a.file,
@@ -53,7 +53,7 @@ fn compare_from<R: Env + Files + Print + ErrorOutput>(rt: &R, i: usize, count: u
                 &mut b.file,
                 &second_header[..m],
             ),
-            Room::Large => status = in_large_rooms(
+            Room::Large => status = in_rooms::<LARGE_ROOM>(
                 rt,
                 i,
                 &mut a.file,
@@ -89,84 +89,23 @@ fn higher(a: u64, b: u64) -> u64 {
     if a < b { b } else { a }
 }
 
-fn in_small_rooms(
+// In two rooms of N bytes each.
+fn in_rooms<const N: usize>(
     rt: &(impl Env + Print + ErrorOutput),
     i: usize,
     a: &mut impl Read,
     first_header: &[u8],
     b: &mut impl Read,
     second_header: &[u8],
-) -> u64 {
-    let mut space = [0u8; SMALL_ROOM];
-    let first: &mut [u8] = &mut space;
-    read_first_small(rt, i, a, first_header, first, b, second_header)
-}
-
-fn read_first_small(
-    rt: &(impl Env + Print + ErrorOutput),
-    i: usize,
-    a: &mut impl Read,
-    first_header: &[u8],
-    first: &mut [u8],
-    b: &mut impl Read,
-    second_header: &[u8],
-) -> u64 {
-    let Some(n) = read_at(rt, i, a, first_header, &mut *first) else {
+) -> u64
+    requires { N ≤ 16777216 }
+{
+    let mut first = [0u8; N];
+    let Some(n) = read_at(rt, i, a, first_header, &mut first) else {
         return REFUSED;
     };
-    beside_small_room(rt, i, &first[..n], b, second_header)
-}
-
-fn beside_small_room(
-    rt: &(impl Env + Print + ErrorOutput),
-    i: usize,
-    first: &[u8],
-    b: &mut impl Read,
-    second_header: &[u8],
-) -> u64 {
-    let mut space = [0u8; SMALL_ROOM];
-    let second: &mut [u8] = &mut space;
-    compare(rt, i, first, b, second_header, second)
-}
-
-fn in_large_rooms(
-    rt: &(impl Env + Print + ErrorOutput),
-    i: usize,
-    a: &mut impl Read,
-    first_header: &[u8],
-    b: &mut impl Read,
-    second_header: &[u8],
-) -> u64 {
-    let mut space = [0u8; LARGE_ROOM];
-    let first: &mut [u8] = &mut space;
-    read_first_large(rt, i, a, first_header, first, b, second_header)
-}
-
-fn read_first_large(
-    rt: &(impl Env + Print + ErrorOutput),
-    i: usize,
-    a: &mut impl Read,
-    first_header: &[u8],
-    first: &mut [u8],
-    b: &mut impl Read,
-    second_header: &[u8],
-) -> u64 {
-    let Some(n) = read_at(rt, i, a, first_header, &mut *first) else {
-        return REFUSED;
-    };
-    beside_large_room(rt, i, &first[..n], b, second_header)
-}
-
-fn beside_large_room(
-    rt: &(impl Env + Print + ErrorOutput),
-    i: usize,
-    first: &[u8],
-    b: &mut impl Read,
-    second_header: &[u8],
-) -> u64 {
-    let mut space = [0u8; LARGE_ROOM];
-    let second: &mut [u8] = &mut space;
-    compare(rt, i, first, b, second_header, second)
+    let mut second = [0u8; N];
+    compare(rt, i, &first[..n], b, second_header, &mut second)
 }
 
 // Reads the second book into its room and compares it with the first.

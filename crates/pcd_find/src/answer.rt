@@ -34,10 +34,8 @@ fn put_instants(book: &[u8], out: &mut [u64]) -> usize
     ensures { InstantsPromise book.now out.new result }
 {
     let n = book::cycles(book) as usize;
-    let mut i: usize = 0;
-    while i < n {
+    for i in 0..n {
         out[i] = book_parts::instant(book, i as u64);
-        i += 1;
     }
     n
 }

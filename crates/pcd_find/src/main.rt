@@ -4,6 +4,8 @@
 
 mod answer;
 
+ghost use Rattle.std.specs.Prelude.{◌≤◌};
+
 use command::{ErrorOutput, LARGE_ROOM, Room, SMALL_ROOM};
 use std::io::Read;
 use std::rt::{Env, Files};
@@ -39,14 +41,14 @@ fn find_from<R: Env + Files + Print + ErrorOutput>(rt: &R, i: usize, count: usiz
         ) {
             let k = begun.length;
             match begun.room {
-                Room::Small => answered = in_small_room(
+                Room::Small => answered = in_room::<SMALL_ROOM>(
                     rt,
                     &mut file,
                     &space[..n],
                     &header[..k],
                     i + 1,
                 ),
-                Room::Large => answered = in_large_room(
+                Room::Large => answered = in_room::<LARGE_ROOM>(
                     rt,
                     &mut file,
                     &space[..n],
@@ -59,28 +61,18 @@ fn find_from<R: Env + Files + Print + ErrorOutput>(rt: &R, i: usize, count: usiz
     find_from(rt, i + 2, count) & answered
 }
 
-fn in_small_room(
+// In a room of N bytes.
+fn in_room<const N: usize>(
     rt: &(impl Env + Print + ErrorOutput),
     file: &mut impl Read,
     path: &[u8],
     header: &[u8],
     asked: usize,
-) -> bool {
-    let mut space = [0u8; SMALL_ROOM];
-    let room: &mut [u8] = &mut space;
-    find(rt, file, path, header, asked, room)
-}
-
-fn in_large_room(
-    rt: &(impl Env + Print + ErrorOutput),
-    file: &mut impl Read,
-    path: &[u8],
-    header: &[u8],
-    asked: usize,
-) -> bool {
-    let mut space = [0u8; LARGE_ROOM];
-    let room: &mut [u8] = &mut space;
-    find(rt, file, path, header, asked, room)
+) -> bool
+    requires { N ≤ 16777216 }
+{
+    let mut space = [0u8; N];
+    find(rt, file, path, header, asked, &mut space)
 }
 
 // Reads the book into the room and looks the instant up that an argument names.

@@ -77,13 +77,11 @@ fn read_all<R: Env + Files + Input + Clock + Print + ErrorOutput>(rt: &R, shifts
     let area: &mut [u8] = &mut area_space;
     let mut source = Source::Nothing;
     let mut s = begin(rt, begins(shifts, 0));
-    let mut turns = MOST_TURNS;
-    while 0 < turns {
+    for _ in 0..MOST_TURNS {
         s = turn(rt, s, &mut source, &mut *buffer, &mut *area, shifts);
         if !s.goes_on {
             return s;
         }
-        turns -= 1;
     }
     s
 }

@@ -23,19 +23,9 @@ fn show_lead_ins(rt: &impl ErrorOutput, text: &mut [u8], handed: u64) {
 }
 
 fn show_operators(rt: &impl ErrorOutput, o: Operators) {
-    let mut k: usize = 0;
-    while k < 8 {
-        show_operator(rt, k as u64, paid(o, k));
-        k += 1;
+    for (k, &n) in o.paid.iter().enumerate() {
+        show_operator(rt, k as u64, n);
     }
-}
-
-fn paid(o: Operators, k: usize) -> u64 {
-    let counts = o.paid;
-    if k < 8 {
-        return counts[k];
-    }
-    0
 }
 
 fn show_operator(rt: &impl ErrorOutput, k: u64, n: u64) {

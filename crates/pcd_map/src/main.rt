@@ -59,13 +59,11 @@ fn read_all<R: Env + Files + Input + ErrorOutput>(rt: &R, cells: &mut [u8]) -> S
     let area: &mut [u8] = &mut area_space;
     let mut source = Source::Nothing;
     let mut s = begin(rt);
-    let mut turns = MOST_TURNS;
-    while 0 < turns {
+    for _ in 0..MOST_TURNS {
         s = turn(rt, s, &mut source, &mut *buffer, &mut *area, &mut *cells);
         if !s.goes_on {
             return s;
         }
-        turns -= 1;
     }
     s
 }

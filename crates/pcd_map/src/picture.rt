@@ -12,6 +12,8 @@ const TEXT: usize = 8192;
 // The map has 256 rows of 128 cells at most.
 const CELLS: usize = 32768;
 
+const ROWS: usize = 256;
+
 const ROW: usize = 128;
 
 // Every so manieth row tells the byte with which it begins.
@@ -220,9 +222,9 @@ fn show_labels(
     length: u64,
     count: usize,
 ) -> bool {
-    let mut row: usize = 0;
     let mut byte: u64 = 0;
-    while row < 256 {
+    for eighth in 0..ROWS / TOLD {
+        let row = TOLD * eighth;
         if count <= row * ROW {
             return true;
         }
@@ -230,7 +232,6 @@ fn show_labels(
             return false;
         }
         byte = reel_map::sum(byte, told_rows(length));
-        row += TOLD;
     }
     true
 }
@@ -249,15 +250,13 @@ fn show_label(rt: &(impl Print + ErrorOutput), text: &mut [u8], y: u64, byte: u6
 }
 
 fn show_rows(rt: &(impl Print + ErrorOutput), text: &mut [u8], count: usize, cells: &[u8]) -> bool {
-    let mut row: usize = 0;
-    while row < 256 {
+    for row in 0..ROWS {
         if count <= row * ROW {
             return true;
         }
         if !show_row(rt, &mut *text, row as u64, row * ROW, count, cells) {
             return false;
         }
-        row += 1;
     }
     true
 }
@@ -281,6 +280,7 @@ fn put_row(out: &mut [u8], row: u64, first: usize, count: usize, cells: &[u8]) -
     let end = row_end(first, count);
     let mut at: usize = 0;
     let mut i = first;
+    // It goes on by runs, whose ends only the cells tell: a `for` has no such steps.
     while i < end {
         let stop = map_cells::run_end(cells, i, end);
         at = put_rect(

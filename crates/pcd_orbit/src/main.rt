@@ -34,6 +34,8 @@ fn write_all(rt: &(impl Input + Print + ErrorOutput), year: u64) -> bool {
 fn write_cycles(rt: &(impl Input + Print + ErrorOutput), year: u64, area: &mut [u8]) -> bool {
     let mut frames: u64 = 0;
     let mut cycle: u64 = 0;
+    // What standard input brings ends it: a `for` would need a bound that no input reaches and
+    // an answer behind it.
     loop {
         let read = cycle_input::next_cycle(rt, b"pcd-orbit", year, &mut *area, frames);
         if !read.whole {

@@ -77,6 +77,8 @@ fn read_all(input: &mut impl Read) -> State
     let mut area_space = [0u8; 16384];
     let area: &mut [u8] = &mut area_space;
     let mut state = begun();
+    // What the reads bring ends it: a `for` would need a bound that no input reaches and an
+    // answer behind it, which could not promise that the reading has stopped.
     loop {
         state = turn(state, &mut *input, &mut *buffer, &mut *area);
         let input = state.input;

@@ -1,8 +1,0 @@
--- `pcd_book_compare::beside_small_room` ends: the room has its length. Assumes nothing.
-use mathlib.Core.Path.{sym}
-use Prim.Native.Nat.{ℕ}
-use lib.ListN.{length-replicate}
-use Rattle.pcd_book_compare.proofs.beside_small_room.Goals as goal
-
-pub slice_bounds-second-end : goal.slice_bounds-second-end
-slice_bounds-second-end g c = sym (length-replicate {A = ℕ} 2097541 0)
