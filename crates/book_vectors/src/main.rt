@@ -55,6 +55,7 @@ fn turn(rt: &(impl Input + Print), bodies: &mut [u8], book: &mut [u8]) -> io::Re
     run(rt, record[0], n, number(&record[8..16]), bodies, book)
 }
 
+// The operation stays a number: it is the record's format, which tests/book_vectors.py writes.
 fn run(
     rt: &(impl Input + Print),
     operation: u8,
@@ -64,10 +65,10 @@ fn run(
     book: &mut [u8],
 ) -> io::Result<bool> {
     match operation {
-        1 => return Ok(make_body(rt, bodies, n, value)),
-        2 => return Ok(patch(bodies, n, value)),
-        3 => return write(rt, bodies, n, value, book),
-        _ => return on_book(rt, operation, n, value, book),
+        1 => Ok(make_body(rt, bodies, n, value)),
+        2 => Ok(patch(bodies, n, value)),
+        3 => write(rt, bodies, n, value, book),
+        _ => on_book(rt, operation, n, value, book),
     }
 }
 
@@ -79,37 +80,45 @@ fn on_book(
     book: &mut [u8],
 ) -> io::Result<bool> {
     match operation {
-        4 => return Ok(patch(book, n, value)),
-        5 => return Ok(fill(book, n, value)),
-        _ => return ask(rt, operation, n, value, book),
+        4 => Ok(patch(book, n, value)),
+        5 => Ok(fill(book, n, value)),
+        _ => ask(rt, operation, n, value, book),
     }
 }
 
 fn ask(rt: &impl Print, operation: u8, n: usize, i: u64, book: &[u8]) -> io::Result<bool> {
+    let Some(bytes) = book.get(..n) else {
+        return Ok(false);
+    };
     match operation {
-        6 => return view(rt, book, n),
-        7 => return parts(rt, book, n, i),
-        8 => return check(rt, book, n),
+        6 => put_view(rt, bytes)?,
+        7 => put_parts(rt, bytes, i)?,
+        8 => put_check(rt, bytes)?,
         _ => return Ok(false),
     }
+    Ok(true)
 }
 
 // ---- what changes an area
 
 fn patch(area: &mut [u8], place: usize, value: u64) -> bool {
-    if area.len() <= place {
-        return false;
+    match area.get_mut(place) {
+        Some(byte) => {
+            *byte = (value % 256) as u8;
+            true
+        }
+        None => false,
     }
-    area[place] = (value % 256) as u8;
-    true
 }
 
 fn fill(area: &mut [u8], n: usize, value: u64) -> bool {
-    if area.len() < n {
-        return false;
+    match area.get_mut(..n) {
+        Some(bytes) => {
+            bytes.fill((value % 256) as u8);
+            true
+        }
+        None => false,
     }
-    area[..n].fill((value % 256) as u8);
-    true
 }
 
 // Body i, made of a seed and the time code that follows.
@@ -170,14 +179,14 @@ fn put_identifier(body: &mut [u8], kind: u8) {
 // Word 72 of minor frame 96 + k of a major frame.
 fn put_word72(body: &mut [u8], major: u8, k: usize, value: u8) {
     if k < 8 {
-        let start = format::MAJOR_FRAME * (major as usize) + format::MINOR_FRAME * (96 + k);
+        let start = format::MAJOR_FRAME * usize::from(major) + format::MINOR_FRAME * (96 + k);
         set(body, start + 72, value);
     }
 }
 
 fn set(area: &mut [u8], place: usize, value: u8) {
-    if place < area.len() {
-        area[place] = value;
+    if let Some(byte) = area.get_mut(place) {
+        *byte = value;
     }
 }
 
@@ -211,14 +220,6 @@ fn put_written(rt: &impl Print, year: u64, bodies: &[u8], book: &mut [u8]) -> io
     fields(rt, b"write # sum #\n", &numbers)
 }
 
-fn view(rt: &impl Print, area: &[u8], n: usize) -> io::Result<bool> {
-    if area.len() < n {
-        return Ok(false);
-    }
-    put_view(rt, &area[0..n])?;
-    Ok(true)
-}
-
 fn put_view(rt: &impl Print, bytes: &[u8]) -> io::Result<()> {
     let numbers = [
         u64::from(refusal::code(book::accept(bytes))),
@@ -228,15 +229,11 @@ fn put_view(rt: &impl Print, bytes: &[u8]) -> io::Result<()> {
     fields(rt, b"view # cycles # year #\n", &numbers)
 }
 
-fn check(rt: &impl Print, area: &[u8], n: usize) -> io::Result<bool> {
-    if area.len() < n {
-        return Ok(false);
+fn put_check(rt: &impl Print, bytes: &[u8]) -> io::Result<()> {
+    match book_check::check(bytes) {
+        Ok(()) => put(rt, b"check accepted\n"),
+        Err(fault) => put_fault(rt, fault),
     }
-    match book_check::check(&area[0..n]) {
-        Ok(()) => put(rt, b"check accepted\n")?,
-        Err(fault) => put_fault(rt, fault)?,
-    }
-    Ok(true)
 }
 
 fn put_fault(rt: &impl Print, fault: Fault) -> io::Result<()> {
@@ -244,17 +241,13 @@ fn put_fault(rt: &impl Print, fault: Fault) -> io::Result<()> {
     fields(rt, b"check # entry #\n", &numbers)
 }
 
-fn parts(rt: &impl Print, area: &[u8], n: usize, i: u64) -> io::Result<bool> {
-    if area.len() < n {
-        return Ok(false);
-    }
-    put_parts(rt, &area[0..n], i)?;
-    put_viewed(rt, &area[0..n], i)?;
-    Ok(true)
+fn put_parts(rt: &impl Print, bytes: &[u8], i: u64) -> io::Result<()> {
+    put_placed(rt, bytes, i)?;
+    put_viewed(rt, bytes, i)
 }
 
 // By the slice, with the places; a part that is refused is an empty one at 0.
-fn put_parts(rt: &impl Print, bytes: &[u8], i: u64) -> io::Result<()> {
+fn put_placed(rt: &impl Print, bytes: &[u8], i: u64) -> io::Result<()> {
     let place = book_parts::entry_place(bytes, i);
     field(rt, b"part ", u64::from(refusal::code(place)))?;
     field(rt, b" entry ", start_of(place))?;

@@ -29,6 +29,7 @@ fn turn(rt: &(impl Input + Print)) -> io::Result<bool> {
     Ok(true)
 }
 
+// The operation stays a number: the record's format, which tests/data_pointer_vectors.py writes.
 fn run(operation: u8, p: u64, n: u64) -> Result<u64, Refusal> {
     match operation {
         1 => data_pointer::next(p),

@@ -69,6 +69,7 @@ fn turn(rt: &(impl Input + Print), area: &mut [u8], bits: u64) -> io::Result<Opt
 }
 
 // The bits that the call leaves.
+// The operation stays a number: the record's format, which tests/frame_store_vectors.py writes.
 fn run(
     rt: &impl Print,
     operation: u8,
@@ -119,10 +120,10 @@ fn store_first(
     bytes: &[u8],
     length: usize,
 ) -> io::Result<u64> {
-    if bytes.len() < length {
-        return Ok(bits);
+    match bytes.get(..length) {
+        Some(frame) => put_stored(rt, frame_store::store(area, bits, frame), bits),
+        None => Ok(bits),
     }
-    put_stored(rt, frame_store::store(area, bits, &bytes[0..length]), bits)
 }
 
 // The numbers from the first on by the step, modulo 2^64, and of each the remainder by 251.

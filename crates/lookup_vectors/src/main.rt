@@ -36,6 +36,7 @@ fn turn(rt: &(impl Input + Print), instants: &mut [u64]) -> io::Result<bool> {
     run(rt, record[0], &mut instants[0..n], number(&record[8..16]))
 }
 
+// The operation stays a number: it is the record's format, which tests/lookup_vectors.py writes.
 fn run(
     rt: &(impl Input + Print),
     operation: u8,

@@ -36,6 +36,7 @@ fn turn(rt: &(impl Input + Print), area: &mut [u8]) -> io::Result<bool> {
     let n = number(&record[4..8]) as usize;
     let value = number(&record[8..16]);
     let k = number(&record[16..24]);
+    // The operation stays a number: it is the record's format, which tests/orbit_vectors.py writes.
     match record[0] {
         1 => Ok(load(rt, area)),
         2 => Ok(set(area, n, (value % 256) as u8)),

@@ -23,6 +23,7 @@ fn main(rt: HostRuntime) -> io::Result<()> {
 // What a record asks for.
 #[derive(Clone, Copy)]
 struct Asked {
+    // The operation stays a number: it is the record's format, which tests/pay_vectors.py writes.
     operation: u8,
     // The length of the lent answer.
     lent: u8,
@@ -97,11 +98,10 @@ fn put_series(bytes: &mut [u8], first: u64, step: u64, modulus: u64)
 
 // Lends the first bytes of an answer, and writes what is returned and all that the answer then holds.
 fn put_answer(rt: &impl Print, asked: Asked, bytes: &[u8], answer: &mut [u8]) -> io::Result<bool> {
-    let lent = asked.lent as usize;
-    if answer.len() < lent {
+    let Some(lent) = answer.get_mut(..usize::from(asked.lent)) else {
         return Ok(false);
-    }
-    let returned = call(asked, bytes, &mut answer[0..lent]);
+    };
+    let returned = call(asked, bytes, lent);
     vectors::put_number(rt, u64::from(returned))?;
     put(rt, b" ")?;
     vectors::put_bytes(rt, answer)?;

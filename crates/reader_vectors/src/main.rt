@@ -8,7 +8,6 @@ mod shifts;
 ghost use Rattle.std.specs.Prelude.{◌≡◌, length};
 
 use base::format::MAJOR_FRAME;
-use base::refusal;
 use base::refusal::Refusal;
 use feeding::Stepped;
 use labelling::Tally;
@@ -34,12 +33,10 @@ pub(crate) struct Reading {
 }
 
 fn main(rt: HostRuntime) -> io::Result<()> {
-    let mut left = vectors::MOST_RECORDS;
-    while left > 0 {
+    for _ in 0..vectors::MOST_RECORDS {
         if !turn(&rt)? {
             return Ok(());
         }
-        left -= 1;
     }
     Ok(())
 }
@@ -75,12 +72,8 @@ fn record(rt: &(impl Input + Print), header: &[u8]) -> io::Result<bool>
 fn every_cut(rt: &impl Print, stream: &[u8], lengths: &[u8], s: Shifts, rule: u64) -> io::Result<()>
     requires { length lengths.now ≡ 32 }
 {
-    let mut k: usize = 0;
-    while k < 8 {
-        let start = 4 * k;
-        let end = start + 4;
-        one_cut(rt, stream, &lengths[start..end], s, rule)?;
-        k += 1;
+    for length in lengths.chunks_exact(4) {
+        one_cut(rt, stream, length, s, rule)?;
     }
     Ok(())
 }
@@ -92,7 +85,7 @@ fn one_cut(rt: &impl Print, stream: &[u8], length: &[u8], s: Shifts, rule: u64) 
         return Ok(());
     }
     let begun = reader::fresh(rule);
-    report::heading(rt, stream.len(), piece, rule, refusal::code(begun.answer))?;
+    report::heading(rt, stream.len(), piece, rule, begun.answer)?;
     let mut space = [0u8; 16384];
     let area: &mut [u8] = &mut space;
     let r = read_stream(rt, from_tally(begun.tally, s), stream, piece, &mut *area)?;
@@ -121,6 +114,7 @@ fn read_stream(
 {
     let mut r = probe(begun, &mut *area);
     let mut at: usize = 0;
+    // No `for` is plainer: a step goes on by as many bytes as its call took.
     while at < stream.len() {
         let t = r.tally;
         match feeding::step(t, stream, at, piece, &mut *area) {

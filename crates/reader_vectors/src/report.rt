@@ -1,5 +1,6 @@
 // What is written of a stream.
 use crate::Reading;
+use base::refusal::{self, Refusal};
 use labelling::{Framing, Groups, Operators, Runs, Tally};
 use std::io;
 use vectors::{bit, checksum, fields};
@@ -10,9 +11,10 @@ pub(crate) fn heading(
     length: usize,
     piece: usize,
     rule: u64,
-    refusal: u8,
+    answer: Result<(), Refusal>,
 ) -> io::Result<()> {
-    let numbers = [length as u64, piece as u64, rule, u64::from(refusal)];
+    let refusal = u64::from(refusal::code(answer));
+    let numbers = [length as u64, piece as u64, rule, refusal];
     fields(
         rt,
         b"stream of # bytes in pieces of # by rule # refused #\n",

@@ -1,5 +1,5 @@
 // Changes of duty among the calls of a reading.
-ghost use Rattle.std.specs.Prelude.{◌≡◌, ◌<◌, length};
+ghost use Rattle.std.specs.Prelude.{◌≡◌, length};
 
 use crate::Reading;
 use base::refusal::Refusal;
@@ -23,10 +23,8 @@ pub(crate) fn begun(b: &[u8]) -> Shifts
     requires { length b.now ≡ 64 }
 {
     let mut operators = [0u64; 8];
-    let mut k: usize = 0;
-    while k < 8 {
-        operators[k] = operator(b, k);
-        k += 1;
+    for (operator, bytes) in operators.iter_mut().zip(b.chunks_exact(8)) {
+        *operator = number(bytes);
     }
     Shifts {
         operators: operators,
@@ -34,14 +32,6 @@ pub(crate) fn begun(b: &[u8]) -> Shifts
         changed: 0,
         refused: 0,
     }
-}
-
-fn operator(b: &[u8], k: usize) -> u64
-    requires { (length b.now ≡ 64) × (k < 8) }
-{
-    let start = 8 * k;
-    let end = start + 8;
-    number(&b[start..end])
 }
 
 // The reading after the next operator is named.

@@ -27,12 +27,10 @@ pub(crate) struct Reading {
 }
 
 fn main(rt: HostRuntime) -> io::Result<()> {
-    let mut left = vectors::MOST_RECORDS;
-    while left > 0 {
+    for _ in 0..vectors::MOST_RECORDS {
         if !turn(&rt)? {
             return Ok(());
         }
-        left -= 1;
     }
     Ok(())
 }
@@ -67,12 +65,8 @@ fn record(rt: &(impl Input + Print), header: &[u8]) -> io::Result<bool>
 fn every_cut(rt: &impl Print, reel: &[u8], lengths: &[u8], rule: u64) -> io::Result<()>
     requires { length lengths.now ≡ 32 }
 {
-    let mut k: usize = 0;
-    while k < 8 {
-        let start = 4 * k;
-        let end = start + 4;
-        one_cut(rt, reel, &lengths[start..end], rule)?;
-        k += 1;
+    for length in lengths.chunks_exact(4) {
+        one_cut(rt, reel, length, rule)?;
     }
     Ok(())
 }
@@ -114,13 +108,11 @@ fn read_reel(
     area: &mut [u8],
 ) -> io::Result<Reading> {
     let mut r = begun;
-    let mut left = MOST_STEPS;
-    while left > 0 {
+    for _ in 0..MOST_STEPS {
         if is_done(r, reel.len()) {
             return Ok(r);
         }
         r = step(rt, r, reel, piece, &mut *area)?;
-        left -= 1;
     }
     Ok(r)
 }

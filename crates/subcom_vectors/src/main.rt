@@ -52,13 +52,14 @@ fn run(
     let b = number(&record[16..24]);
     let c = number(&record[24..32]);
     let year = number(&record[32..40]);
+    // The operation stays a number: the record's format, which tests/word72_vectors.py writes.
     match operation {
-        1 => return Ok(load(rt, area, AREA)),
-        2 => return Ok(load(rt, column, COLUMN)),
-        3 => return gather(rt, first(area, a), column, b),
+        1 => Ok(load(rt, area, AREA)),
+        2 => Ok(load(rt, column, COLUMN)),
+        3 => gather(rt, first(area, a), column, b),
         _ => {
             ask_one(rt, operation, year, column, a, b, c)?;
-            return Ok(true);
+            Ok(true)
         }
     }
 }
@@ -82,19 +83,15 @@ fn ask_one(
 
 // Fills the first n bytes of a buffer from the input.
 fn load(rt: &impl Input, buffer: &mut [u8], n: usize) -> bool {
-    if n <= buffer.len() {
-        return filled(rt, &mut buffer[0..n]);
+    match buffer.get_mut(..n) {
+        Some(bytes) => filled(rt, bytes),
+        None => false,
     }
-    false
 }
 
 // The first n bytes of a buffer, or all where it has no more.
 fn first(buffer: &[u8], n: u64) -> &[u8] {
-    let count = n as usize;
-    if count <= buffer.len() {
-        return &buffer[0..count];
-    }
-    buffer
+    buffer.get(..n as usize).unwrap_or(buffer)
 }
 
 // Gathers into the first n bytes of the column, and writes the answer and the whole buffer.

@@ -8,7 +8,7 @@ use base::refusal;
 use base::refusal::Refusal;
 use std::io;
 use std::io::Input;
-use vectors::{field, number, put};
+use vectors::{field, put};
 
 fn main(rt: HostRuntime) -> io::Result<()> {
     for _ in 0..vectors::MOST_RECORDS {
@@ -26,7 +26,7 @@ fn turn(rt: &(impl Input + Print)) -> io::Result<bool> {
     if !vectors::filled(rt, &mut record) {
         return Ok(false);
     }
-    let n = number(&record[1..2]) as usize;
+    let n = usize::from(record[1]);
     if 16 < n {
         return Ok(false);
     }
@@ -35,6 +35,7 @@ fn turn(rt: &(impl Input + Print)) -> io::Result<bool> {
     Ok(true)
 }
 
+// The operation stays a number: it is the record's format, which tests/vcdu_vectors.py writes.
 fn run(rt: &impl Print, operation: u8, header: &mut [u8]) -> io::Result<()> {
     match operation {
         1 => {

@@ -10,6 +10,7 @@ use std::io;
 use std::io::Input;
 use vectors::number;
 
+// The kind of a record stays a number: the record's format, which tests/writer_vectors.py writes.
 const LEAD_IN: u8 = 0;
 
 const MINOR_FRAME: u8 = 1;
@@ -50,11 +51,9 @@ fn turn(rt: &(impl Input + Print)) -> io::Result<bool> {
 }
 
 fn run(rt: &(impl Input + Print), h: Header) -> io::Result<bool> {
-    if h.kind == LEAD_IN {
-        return single::lead_in(rt, h.spacing, h.room);
+    match h.kind {
+        LEAD_IN => single::lead_in(rt, h.spacing, h.room),
+        MINOR_FRAME => single::minor_frame(rt, h.spacing, h.count, h.room),
+        _ => reel::written_and_read(rt, h.spacing, h.count),
     }
-    if h.kind == MINOR_FRAME {
-        return single::minor_frame(rt, h.spacing, h.count, h.room);
-    }
-    reel::written_and_read(rt, h.spacing, h.count)
 }

@@ -107,11 +107,11 @@ fn write_frames(spacings: &[u8], frames: &[u8], begun: usize, room: &mut [u8]) -
 fn write_frame(spacing: u8, frame: &[u8], room: &mut [u8]) -> usize
     ensures { result ≤ length room.new }
 {
-    let end = 128 * (4 + spacing as usize);
+    let end = 128 * (4 + usize::from(spacing));
     if room.len() < end {
         return 0;
     }
-    if writer::write_minor_frame(spacing as u64, frame, &mut room[..end]).is_err() {
+    if writer::write_minor_frame(u64::from(spacing), frame, &mut room[..end]).is_err() {
         return 0;
     }
     end
@@ -149,6 +149,7 @@ fn fresh() -> Reading {
 fn read_reel(reel: &[u8], frames: &[u8], piece: usize, area: &mut [u8]) -> Reading {
     let mut r = fresh();
     let mut at: usize = 0;
+    // No `for` is plainer: a step goes on by as many bytes as its call took.
     while at < reel.len() {
         let t = r.tally;
         let Ok(s) = feeding::step(t, reel, at, piece, &mut *area) else {

@@ -2,6 +2,7 @@
 ghost use Rattle.std.specs.Prelude.{◌≤◌, length};
 
 use crate::reel::Reading;
+use base::refusal::{self, Refusal};
 use labelling::{Framing, Groups, Runs, Tally};
 use std::io;
 use vectors::{checksum, field, fields, put};
@@ -10,8 +11,12 @@ use vectors::{checksum, field, fields, put};
 const SHORT: usize = 28;
 
 // The answer of a call, and how many bytes it changed.
-pub(crate) fn answered(rt: &impl Print, answer: u8, changed: u64) -> io::Result<()> {
-    let numbers = [answer as u64, changed];
+pub(crate) fn answered(
+    rt: &impl Print,
+    answer: Result<(), Refusal>,
+    changed: u64,
+) -> io::Result<()> {
+    let numbers = [u64::from(refusal::code(answer)), changed];
     fields(rt, b": answer # changed #", &numbers)
 }
 

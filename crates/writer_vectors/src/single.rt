@@ -2,7 +2,6 @@
 ghost use Rattle.std.specs.Prelude.{◌≤◌};
 
 use crate::report;
-use base::refusal;
 use std::io;
 use std::io::Input;
 use vectors::{fields, others};
@@ -29,7 +28,7 @@ fn one_lead_in(rt: &impl Print, spacing: u64, room: usize) -> io::Result<()>
 {
     let mut array = [0xA5u8; 8576];
     let space: &mut [u8] = &mut array;
-    let answer = refusal::code(writer::write_lead_in(spacing, &mut space[..room]));
+    let answer = writer::write_lead_in(spacing, &mut space[..room]);
     report::answered(rt, answer, others(space, BEFORE))?;
     report::short_output(rt, space, room)
 }
@@ -62,7 +61,7 @@ fn one_minor_frame(rt: &impl Print, spacing: u64, frame: &[u8], room: usize) -> 
 {
     let mut array = [0xA5u8; 8576];
     let space: &mut [u8] = &mut array;
-    let answer = refusal::code(writer::write_minor_frame(spacing, frame, &mut space[..room]));
+    let answer = writer::write_minor_frame(spacing, frame, &mut space[..room]);
     report::answered(rt, answer, others(space, BEFORE))?;
     report::output(rt, space, room)
 }
