@@ -10,7 +10,7 @@ use Rattle.base.proofs.Rows.{row_is}
 use Rattle.cycle.specs.Cycle.{is_cycle, instant_of}
 use Rattle.book_shelf.specs.declared.Shelf.{Shelf}
 use Rattle.book_shelf.specs.Shelves.{EndPromise, rises_above, left_out, added_to}
-use Rattle.pcd_book.specs.Shelves.{Roomy, Fits, Kept, TurnPromise}
+use Rattle.pcd_book.specs.Shelves.{Fits, Kept, TurnPromise}
 use Rattle.pcd_book.proofs.Keeping.{after, after_front, after-row, kept-still, kept_more}
 
 clash : {A : Type 0} → true ≡ false → A
@@ -81,10 +81,3 @@ module _ (y : ℕ) (old part : List ℕ) (s r : Shelf) (f : Fits (length old) s)
               stays = stays_is;
               kept = λ k. kept_more (after s.cycles old part) k (omega (arith, room)) size_is stays_is row-cycle row-instant rises;
             })
-
--- the rooms of the program
-pub small-room : {m : ℕ} → m ≡ 2162688 → Roomy m
-small-room e = record { least = omega arith; most = omega arith }
-
-pub large_room : {m : ℕ} → m ≡ 16777216 → Roomy m
-large_room e = record { least = omega arith; most = omega arith }

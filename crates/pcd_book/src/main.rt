@@ -6,7 +6,7 @@
 mod gathering;
 mod writing;
 
-ghost use Rattle.std.specs.Prelude.{length};
+ghost use Rattle.std.specs.Prelude.{◌≤◌, length};
 ghost use Rattle.pcd_book.specs.Shelves.{Roomy, Bound};
 
 use command::{ErrorOutput, LARGE_ROOM, SMALL_ROOM};
@@ -39,10 +39,10 @@ fn write_from<R: Env + Input + Print + ErrorOutput>(rt: &R, i: usize, count: usi
         return true;
     }
     if few_at(rt, i + 1) {
-        let done = in_small_rooms(rt, i);
+        let done = in_rooms::<SMALL_BODIES, SMALL_ROOM>(rt, i);
         return write_from(rt, i + 2, count) & done;
     }
-    let done = in_large_rooms(rt, i);
+    let done = in_rooms::<LARGE_BODIES, LARGE_ROOM>(rt, i);
     write_from(rt, i + 2, count) & done
 }
 
@@ -56,14 +56,24 @@ fn few_at(rt: &impl Env, i: usize) -> bool {
     }
 }
 
-fn in_small_rooms<R: Env + Input + Print + ErrorOutput>(rt: &R, i: usize) -> bool {
-    let mut space = [0u8; SMALL_BODIES];
+// With room for so many bytes of bodies, and for a book of N bytes.
+fn in_rooms<const BODIES: usize, const N: usize>(
+    rt: &(impl Env + Input + Print + ErrorOutput),
+    i: usize,
+) -> bool
+    requires { (Roomy BODIES) × (N ≤ 16777216) }
+{
+    let mut space = [0u8; BODIES];
     let bodies: &mut [u8] = &mut space;
-    gather_small(rt, i, bodies)
+    gather::<N>(rt, i, bodies)
 }
 
-fn gather_small<R: Env + Input + Print + ErrorOutput>(rt: &R, i: usize, bodies: &mut [u8]) -> bool
-    requires { Roomy (length bodies.old) }
+fn gather<const N: usize>(
+    rt: &(impl Env + Input + Print + ErrorOutput),
+    i: usize,
+    bodies: &mut [u8],
+) -> bool
+    requires { (Roomy (length bodies.old)) × (N ≤ 16777216) }
 {
     let Some(year) = year_argument::year_at(rt, b"pcd-book", i) else {
         return false;
@@ -73,41 +83,12 @@ fn gather_small<R: Env + Input + Print + ErrorOutput>(rt: &R, i: usize, bodies: 
         return false;
     }
     let n = CYCLE * shelf.cycles;
-    write_small(rt, year, &bodies[0..n]) & shelf.all
+    write::<N>(rt, year, &bodies[0..n]) & shelf.all
 }
 
-fn write_small(rt: &(impl Print + ErrorOutput), year: u64, bodies: &[u8]) -> bool
-    requires { Bound year bodies.now }
+fn write<const N: usize>(rt: &(impl Print + ErrorOutput), year: u64, bodies: &[u8]) -> bool
+    requires { (Bound year bodies.now) × (N ≤ 16777216) }
 {
-    let mut space = [0u8; SMALL_ROOM];
-    let out: &mut [u8] = &mut space;
-    writing::write(rt, year, bodies, out)
-}
-
-fn in_large_rooms<R: Env + Input + Print + ErrorOutput>(rt: &R, i: usize) -> bool {
-    let mut space = [0u8; LARGE_BODIES];
-    let bodies: &mut [u8] = &mut space;
-    gather_large(rt, i, bodies)
-}
-
-fn gather_large<R: Env + Input + Print + ErrorOutput>(rt: &R, i: usize, bodies: &mut [u8]) -> bool
-    requires { Roomy (length bodies.old) }
-{
-    let Some(year) = year_argument::year_at(rt, b"pcd-book", i) else {
-        return false;
-    };
-    let shelf = gathering::gather(rt, year, &mut *bodies);
-    if shelf.failed {
-        return false;
-    }
-    let n = CYCLE * shelf.cycles;
-    write_large(rt, year, &bodies[0..n]) & shelf.all
-}
-
-fn write_large(rt: &(impl Print + ErrorOutput), year: u64, bodies: &[u8]) -> bool
-    requires { Bound year bodies.now }
-{
-    let mut space = [0u8; LARGE_ROOM];
-    let out: &mut [u8] = &mut space;
-    writing::write(rt, year, bodies, out)
+    let mut space = [0u8; N];
+    writing::write(rt, year, bodies, &mut space)
 }

@@ -1,8 +1,0 @@
--- `pcd_book::write_small` ends: the room has its length. Assumes nothing.
-use mathlib.Core.Path.{sym}
-use Prim.Native.Nat.{ℕ}
-use lib.ListN.{length-replicate}
-use Rattle.pcd_book.proofs.write_small.Goals as goal
-
-pub slice_bounds-out-end : goal.slice_bounds-out-end
-slice_bounds-out-end g c = sym (length-replicate {A = ℕ} 2097541 0)
