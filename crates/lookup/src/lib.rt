@@ -1,7 +1,7 @@
 // Finds the last recorded instant at or before a wanted one, by halving (paper 02, request 1).
 #![tactic(auto)]
 
-ghost use Rattle.std.specs.Prelude.{◌≡◌, ◌≤◌, List, ℕ, length, get_or};
+ghost use Rattle.std.specs.Prelude.{◌≡◌, ◌≤◌, ◌<◌, List, ℕ, length, get_or};
 ghost use Rattle.lookup.specs.Answer.{Halved};
 ghost use Rattle.lookup.specs.Promise.{FindPromise};
 
@@ -25,9 +25,20 @@ pub trait Instants {
     fn count(&self) -> usize
         ensures { result ≡ length (items self.now) };
 
+    // The instant at a place that there is. Halving comes to no other place, so a look costs no test.
+    fn entry(&self, place: usize) -> u64
+        requires { place < length (items self.now) }
+        ensures { result ≡ get_or (items self.now) place 0 };
+
     // The instant at a place; 0 past the end.
     fn instant(&self, place: usize) -> u64
-        ensures { result ≡ get_or (items self.now) place 0 };
+        ensures { result ≡ get_or (items self.now) place 0 }
+    {
+        if self.count() <= place {
+            return 0;
+        }
+        self.entry(place)
+    }
 }
 
 // Instants as a list of numbers.
@@ -43,8 +54,8 @@ impl<'a> Instants for Numbers<'a> {
         self.numbers.len()
     }
 
-    fn instant(&self, place: usize) -> u64 {
-        self.numbers.get(place).copied().unwrap_or(0)
+    fn entry(&self, place: usize) -> u64 {
+        self.numbers[place]
     }
 }
 
@@ -76,7 +87,7 @@ fn halve<I: Instants>(instants: &I, wanted: u64) -> Found
     let mut looks = 0;
     while low < high {
         let half = (low + high) / 2;
-        if instants.instant(half) <= wanted {
+        if instants.entry(half) <= wanted {
             low = half + 1;
         } else {
             high = half;

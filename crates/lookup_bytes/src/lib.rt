@@ -27,7 +27,7 @@ impl<'a> Instants for EightBytes<'a> {
         count(self.bytes)
     }
 
-    fn instant(&self, place: usize) -> u64 {
+    fn entry(&self, place: usize) -> u64 {
         instant_at(self.bytes, place)
     }
 }
@@ -50,14 +50,12 @@ fn count(bytes: &[u8]) -> usize
     bytes.len() / WIDTH
 }
 
-// The instant at a place; 0 past the last whole one. It is read in two halves, each a sum from its
-// lowest byte on, so that the eight bytes are compiled to one load.
+// It is read in two halves, each a sum from its lowest byte on, so that the eight bytes are compiled
+// to one load.
 fn instant_at(bytes: &[u8], place: usize) -> u64
+    requires { place < length (instants_in bytes.now) }
     ensures { result ≡ get_or (instants_in bytes.now) place 0 }
 {
-    if count(bytes) <= place {
-        return 0;
-    }
     let at = WIDTH * place;
     four(bytes, at + 4) + 0x1_0000_0000 * four(bytes, at)
 }

@@ -44,8 +44,10 @@ fn show_lines(rt: &(impl Print + ErrorOutput), table: &[u64], n: u64) -> u64
     if n == 0 {
         return 0;
     }
-    for k in 0..n {
-        let Some(line) = table.chunks_exact(3).nth(k as usize) else {
+    // One walk over the table: a search from its front for each line would take longer than linear.
+    let mut lines = table.chunks_exact(3);
+    for _ in 0..n {
+        let Some(line) = lines.next() else {
             return REFUSED;
         };
         if !show_line(rt, line[0], line[1], line[2]) {

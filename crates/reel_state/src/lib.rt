@@ -4,6 +4,7 @@
 ghost use Rattle.std.specs.Prelude.{◌≡◌, true, false, ◌≤◌};
 ghost use Rattle.base.specs.Lists.{one};
 ghost use Rattle.reel_state.specs.Reading.{Room, SteppedPromise, is_complete, Keeps};
+ghost use Rattle.reel_state.specs.declared.Event.TheVariants.{Refused};
 
 use base::refusal::Refusal;
 use relocking::{Feeder, Relocked};
@@ -117,7 +118,8 @@ fn number(complete: bool) -> u64
 
 // The bytes are refused, and the reel is as it was.
 pub fn refused(reel: Reel, refusal: Refusal) -> Advanced
-    ensures { Keeps reel result }
+    ensures keeps { Keeps reel result }
+    ensures told { result.event ≡ Refused refusal }
 {
     Advanced {
         event: Event::Refused(refusal),

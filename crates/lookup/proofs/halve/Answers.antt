@@ -3,16 +3,16 @@ use Rattle.std.proofs.Common.{refl, ap}
 use Rattle.lookup.proofs.Halving.{turn_past, turn_before, ended}
 use Rattle.lookup.proofs.Promises.{place_is}
 use Rattle.lookup.proofs.halve.Goals as goal
-use Rattle.lookup.proofs.halve.Goals.{then-instant-wanted, else-instant-wanted}
+use Rattle.lookup.proofs.halve.Goals.{then-entry-wanted, else-entry-wanted}
 
 pub loop-low-preserved : goal.loop-low-preserved
 loop-low-preserved g c =
     let xs = g.I.Instants.items c.args.instants.now in
     let turn = c.loop-low.invariant in
-    let read = c.instant.ensures in
-    elim c.if-instant-wanted.branch [
-      | then-instant-wanted w ↦ turn_past xs c.args.wanted turn (omega arith) refl refl (omega arith) (omega arith) (omega arith)
-      | else-instant-wanted w ↦ turn_before xs c.args.wanted turn (omega arith) refl refl (omega arith) (omega arith) (omega arith)
+    let read = c.entry.ensures in
+    elim c.if-entry-wanted.branch [
+      | then-entry-wanted w ↦ turn_past xs c.args.wanted turn (omega arith) refl refl (omega arith) (omega arith) (omega arith)
+      | else-entry-wanted w ↦ turn_before xs c.args.wanted turn (omega arith) refl refl (omega arith) (omega arith) (omega arith)
     ]
 
 pub returns : goal.returns

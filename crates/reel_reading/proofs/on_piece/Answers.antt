@@ -6,13 +6,13 @@ use Rattle.reel_reading.proofs.Laws.{advances, stepped_nowhere, keeps_advanced}
 use Rattle.reel_reading.proofs.on_piece.Goals as goal
 
 pub returns-then-reel-gt-LIMIT : goal.returns-then-reel-gt-LIMIT
-returns-then-reel-gt-LIMIT c = keeps_advanced _ _ _ c.refused.ensures
+returns-then-reel-gt-LIMIT c = keeps_advanced _ _ _ c.refused.ensures.keeps
 
 pub returns-then-reel-gt-LIMIT-2 : goal.returns-then-reel-gt-LIMIT-2
-returns-then-reel-gt-LIMIT-2 c = keeps_advanced _ _ _ c.refused-then-reel-gt-LIMIT-2.ensures
+returns-then-reel-gt-LIMIT-2 c = keeps_advanced _ _ _ c.refused-then-reel-gt-LIMIT-2.ensures.keeps
 
 pub returns-in-Err : goal.returns-in-Err
-returns-in-Err c = advances _ _ _ _ _ _ c.in-Err.ensures (stepped_nowhere _ _ c.refused-in-Err.ensures)
+returns-in-Err c = advances _ _ _ _ _ _ c.in-Err.ensures (stepped_nowhere _ _ c.refused-in-Err.ensures.keeps)
 
 pub returns-in-Ok : goal.returns-in-Ok
 returns-in-Ok c =
