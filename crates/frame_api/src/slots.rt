@@ -33,5 +33,5 @@ pub fn pcd_release(area: &[u8], bits: &mut u64, slot: u64) -> u8
 pub fn pcd_slot_refusal(area: &[u8], bits: u64, slot: u64) -> u8
     ensures { result ≡ slot_refusal area.now bits slot }
 {
-    refusal::code(frame_store::slot(area, bits, slot))
+    refusal::code(frame_store::try_slot(area, bits, slot))
 }

@@ -84,6 +84,10 @@ module _ (area : List ℕ) (bits i : ℕ) where
     unfolding part_of
     part-refused = refused-is [] (slot_bytes i area) slot_lines_here z
 
+    pub start-refused : start_of area bits i ≡ 0
+    unfolding start_of
+    start-refused = refused-is 0 (start i) slot_lines_here z
+
 -- a refused call does nothing to a slot
 pub deed-refused : (c : Call) (n : ℕ) → refusal_of c ≡ suc n → deed c ≡ nothing
 deed-refused (storing area bits frame) n e = refused-is nothing _ (store_lines (length area) bits frame) (λ z. omega arith)

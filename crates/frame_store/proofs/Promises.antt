@@ -1,5 +1,5 @@
 -- Each promise, by its ways out. Assumes nothing.
-use Rattle.std.proofs.Common.{◌≡◌, refl, sym, ap, ◌∙◌, List, ℕ, suc, ◌+◌, ◌-◌, ◌^◌, ◌≤◌, Ok, Err, Bor}
+use Rattle.std.proofs.Common.{◌≡◌, refl, sym, ap, ◌∙◌, List, [], ℕ, suc, ◌+◌, ◌-◌, ◌^◌, ◌≤◌, Ok, Err, Bor}
 use native.Mathlib.Omega.{arith}
 use lib.ListN.{length}
 use Rattle.base.specs.declared.refusal.Refusal.{Refusal}
@@ -9,11 +9,11 @@ use Rattle.base.proofs.Lines.{positive}
 use Rattle.frame_store.specs.Slots.{slots, start, slot_bytes, with_frame, lowest_free}
 use Rattle.frame_store.specs.Answers.{store_lines, slot_lines, stored_in, store_refusal, slot_refusal}
 use Rattle.frame_store.specs.Calls.{storing, releasing, reading, accepted, refused}
-use Rattle.frame_store.specs.Promise.{StorePromise, ReleasePromise, SlotPromise}
+use Rattle.frame_store.specs.Promise.{StorePromise, ReleasePromise, SlotPromise, TrySlotPromise}
 use Rattle.frame_store.proofs.Areas.{slot-length, there, elsewhere}
 use Rattle.frame_store.proofs.Refusals.{refuses, to-granted, room, Storable, to-storable}
 use Rattle.frame_store.proofs.Answered.{stored-taken, bits-taken, leaves_taken, stored_refused, leaves_refused}
-use Rattle.frame_store.proofs.Answered.{released-taken, bits-freed, released-refused, part-taken, start-taken, part-refused}
+use Rattle.frame_store.proofs.Answered.{released-taken, bits-freed, released-refused, part-taken, start-taken, part-refused, start-refused}
 use Rattle.frame_store.proofs.Keeping.{kept}
 
 -- a refusal's number follows another
@@ -78,8 +78,8 @@ module _ (area : List ℕ) (bits i : ℕ) where
       })
 
 module _ (area : List ℕ) (base : ℕ × ℕ) (bits i : ℕ) where
-  pub slot-refused : (r : Refusal) → Err r ≡ permitted (slot_lines (length area) bits i) → SlotPromise area base bits i (Err r)
-  slot-refused r p =
+  pub try_slot-refused : (r : Refusal) → Err r ≡ permitted (slot_lines (length area) bits i) → TrySlotPromise area base bits i (Err r)
+  try_slot-refused r p =
       let e = refuses (slot_lines (length area) bits i) r p in
       record {
         refusal_is = sym e;
@@ -91,9 +91,9 @@ module _ (area : List ℕ) (base : ℕ × ℕ) (bits i : ℕ) where
         kept = λ handed. kept handed;
       }
 
-  pub slot-taken : (bytes : Bor (List ℕ)) → slot_refusal area bits i ≡ 0 → bytes.now ≡ slot_bytes i area → bytes.ref_ptr.0 ≡ base.0
-      → bytes.ref_ptr.1 ≡ base.1 + start i → SlotPromise area base bits i (Ok bytes)
-  slot-taken bytes e part block offset =
+  pub try_slot-taken : (bytes : Bor (List ℕ)) → slot_refusal area bits i ≡ 0 → bytes.now ≡ slot_bytes i area → bytes.ref_ptr.0 ≡ base.0
+      → bytes.ref_ptr.1 ≡ base.1 + start i → TrySlotPromise area base bits i (Ok bytes)
+  try_slot-taken bytes e part block offset =
       let g = to-granted (length area) bits i e in
       record {
         refusal_is = sym e;
@@ -103,4 +103,16 @@ module _ (area : List ℕ) (base : ℕ × ℕ) (bits i : ℕ) where
         whole = λ none. rw part (slot-length i area (room (length area) bits i g));
         goes_on = λ before. accepted (reading area bits i) e before;
         kept = λ handed. kept handed;
+      }
+
+  -- `slot` where `try_slot` refuses: the empty part at the area's start
+  pub slot-refused : (r : Refusal) → TrySlotPromise area base bits i (Err r) → SlotPromise area base bits i [] base
+  slot-refused r p =
+      record {
+        contents = p.contents;
+        block = refl;
+        offset = omega (arith, start-refused area bits i (λ none. positive r (p.refusal_is ∙ none)));
+        whole = p.whole;
+        goes_on = p.goes_on;
+        kept = p.kept;
       }

@@ -1,5 +1,5 @@
 -- What each entry promises: its complete answer and every lent byte, refused calls too. Each of them goes on any list of calls that led to
--- the bits and the area that it is handed, and `slot` gives out the claim about every such list. Definitions only.
+-- the bits and the area that it is handed, and `slot` and `try_slot` give out the claim about every such list. Definitions only.
 use Rattle.std.specs.Prelude.{◌≡◌, List, ◌∷◌, ℕ, ◌+◌, length, Result, Ok}
 use denote.Ref.{Bor}
 use Rattle.base.specs.declared.refusal.Refusal.{Refusal}
@@ -26,8 +26,20 @@ pub record ReleasePromise (area : List ℕ) (bits i : ℕ) (r : Result ℕ Refus
   pub refusal_is : number_of r ≡ slot_refusal area bits i
   pub goes_on : {first : List ℕ} {cs : List Call} → Handed first cs bits area → Handed first (releasing area bits i ∷ cs) (given_or bits r) area
 
--- `slot` of the area that lies at base answers r
-pub record SlotPromise (area : List ℕ) (base : ℕ × ℕ) (bits i : ℕ) (r : Result (Bor (List ℕ)) Refusal) : Type 0 where
+-- `slot` of the area that lies at base answers the bytes that lie at place
+pub record SlotPromise (area : List ℕ) (base : ℕ × ℕ) (bits i : ℕ) (bytes : List ℕ) (place : ℕ × ℕ) : Type 0 where
+  pub contents : bytes ≡ part_of area bits i
+  -- the caller's own memory: the same block, from the slot's first byte on
+  pub block : place.0 ≡ base.0
+  pub offset : place.1 ≡ base.1 + start_of area bits i
+  -- a part that is not refused is a whole frame
+  pub whole : slot_refusal area bits i ≡ 0 → length bytes ≡ major_frame
+  pub goes_on : {first : List ℕ} {cs : List Call} → Handed first cs bits area → Handed first (reading area bits i ∷ cs) bits area
+  -- every list of calls that leaves these bits and this area
+  pub kept : {first : List ℕ} {cs : List Call} → Handed first cs bits area → Kept first cs bits area
+
+-- `try_slot` of the area that lies at base answers r
+pub record TrySlotPromise (area : List ℕ) (base : ℕ × ℕ) (bits i : ℕ) (r : Result (Bor (List ℕ)) Refusal) : Type 0 where
   pub refusal_is : number_of r ≡ slot_refusal area bits i
   pub contents : part_in r ≡ part_of area bits i
   -- the caller's own memory: the same block, from the slot's first byte on

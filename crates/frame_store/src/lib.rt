@@ -7,7 +7,8 @@ ghost use Rattle.std.specs.Prelude.{◌≡◌};
 ghost use Rattle.base.specs.Refusals.{permitted};
 ghost use Rattle.frame_store.specs.Slots.{lowest_free};
 ghost use Rattle.frame_store.specs.Answers.{area_lines, slot_lines};
-ghost use Rattle.frame_store.specs.Promise.{StorePromise, ReleasePromise, SlotPromise};
+ghost use Rattle.frame_store.specs.Promise.{StorePromise, ReleasePromise};
+ghost use Rattle.frame_store.specs.Promise.{SlotPromise, TrySlotPromise};
 
 use base::format::MAJOR_FRAME;
 use base::refusal::Refusal;
@@ -53,9 +54,20 @@ pub fn release(area: &[u8], bits: u64, slot: u64) -> Result<u64, Refusal>
     Ok(bits - (1 << slot))
 }
 
-// The frame in a slot, which is the caller's own bytes and no copy. Refused as `release` is.
-pub fn slot(area: &[u8], bits: u64, slot: u64) -> Result<&[u8], Refusal>
-    ensures { SlotPromise area.now area.entry.ref_ptr bits slot result }
+// The frame in a slot, which is the caller's own bytes and no copy. A refused call gives an empty
+// part, and `try_slot` says why.
+pub fn slot(area: &[u8], bits: u64, slot: u64) -> &[u8]
+    ensures { SlotPromise area.now area.entry.ref_ptr bits slot result.now result.ref_ptr }
+{
+    match try_slot(area, bits, slot) {
+        Ok(frame) => frame,
+        Err(_) => &area[..0],
+    }
+}
+
+// The same part, or why there is none. Refused as `release` is.
+pub fn try_slot(area: &[u8], bits: u64, slot: u64) -> Result<&[u8], Refusal>
+    ensures { TrySlotPromise area.now area.entry.ref_ptr bits slot result }
 {
     permit_slot(area.len(), bits, slot)?;
     let first = slot as usize * MAJOR_FRAME;

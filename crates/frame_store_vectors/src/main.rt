@@ -88,6 +88,7 @@ fn run(
         3 => put_released(rt, frame_store::release(area, bits, a), bits),
         4 => {
             put_part(rt, frame_store::slot(area, bits, a))?;
+            vectors::put_refusal(rt, refusal::code(frame_store::try_slot(area, bits, a)))?;
             Ok(bits)
         }
         _ => {
@@ -155,17 +156,8 @@ fn put_released(rt: &impl Print, answer: Result<u64, Refusal>, bits: u64) -> io:
     Ok(left)
 }
 
-// The part as a line, a refused one as an empty part.
-fn put_part(rt: &impl Print, answer: Result<&[u8], Refusal>) -> io::Result<()> {
-    match answer {
-        Ok(part) => put_checked(rt, part, 0),
-        Err(refusal) => put_checked(rt, b"", refusal.number()),
-    }
-}
-
-fn put_checked(rt: &impl Print, part: &[u8], number: u8) -> io::Result<()> {
+fn put_part(rt: &impl Print, part: &[u8]) -> io::Result<()> {
     field(rt, b"part ", part.len() as u64)?;
     field(rt, b" ", checksum(part))?;
-    put(rt, b" ")?;
-    vectors::put_refusal(rt, number)
+    put(rt, b" ")
 }
