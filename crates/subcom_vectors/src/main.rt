@@ -146,7 +146,7 @@ fn list_item(rt: &impl Print, year: u64, column: &[u8], kind: u64, item: u64) ->
 
 // Writes the answers of all entries on one item.
 fn ask(rt: &impl Print, year: u64, column: &[u8], kind: u64, item: u64) -> io::Result<()> {
-    let refusal = refusal::code(subcom::part(column, kind, item));
+    let refusal = refusal::code(subcom::try_part(column, kind, item));
     put_number(rt, u64::from(refusal))?;
     put_values(rt, year, column, kind, item)
 }
@@ -154,7 +154,7 @@ fn ask(rt: &impl Print, year: u64, column: &[u8], kind: u64, item: u64) -> io::R
 // Writes the bytes of an item, none where it is refused, and what they read as.
 fn put_values(rt: &impl Print, year: u64, column: &[u8], kind: u64, item: u64) -> io::Result<()> {
     put(rt, b" [")?;
-    put_bytes(rt, subcom::part(column, kind, item).unwrap_or(&column[..0]))?;
+    put_bytes(rt, subcom::part(column, kind, item))?;
     put(rt, b"] ")?;
     put_reading(rt, subcom::read(year, column, kind, item))
 }

@@ -53,7 +53,7 @@ fn item_numbers(i: Item) -> [u64; 3]
 pub fn pcd_part_refusal(column: &[u8], kind: u64, item: u64) -> u8
     ensures { result ≡ part_refusal column.now kind item }
 {
-    code(subcom::part(column, kind, item))
+    code(subcom::try_part(column, kind, item))
 }
 
 // What an item of a column recorded in a year reads as; `out` gets what that is (0 a count, 2 flags, 3 a number, 4 a time, 5 fill), then its

@@ -70,8 +70,10 @@ fn put_words(area: &[u8], column: &mut [u8])
     requires { (length area.now ≡ 16384) × (length column.old ≡ 128) }
     ensures { column.new ≡ gathered area.now }
 {
+    let mut at = WORD;
     for frame in 0..PLACES {
-        column[frame] = area[STEP * frame + WORD];
+        column[frame] = area[at];
+        at += STEP;
     }
 }
 

@@ -1,10 +1,7 @@
 -- The lines of the forms, bytes in hexadecimal digits, and items one after the other. Assumes nothing.
-use Rattle.std.proofs.Common.{◌≡◌, refl, ap, ◌∙◌, List, [], length, take, get_or, ℕ, ◌+◌, ◌<◌, Result, Ok, Err, add-one, arith}
-use Rattle.std.specs.Borrow.{Bor}
-use Rattle.std.specs.Result.{result_unwrap_or}
+use Rattle.std.proofs.Common.{◌≡◌, refl, List, length, take, get_or, ℕ, ◌+◌, ◌<◌, add-one, arith}
 use mathlib.Core.List.{append-nil}
 use lib.Seq.{take-suc}
-use Rattle.base.specs.declared.refusal.Refusal.{Refusal}
 use Rattle.base.proofs.Lists.{concat_map-append}
 use Rattle.io.specs.Counts.{IsPrefixLen}
 use Rattle.command.specs.Lines.{line_in, first_line, after_line}
@@ -12,7 +9,6 @@ use Rattle.command.specs.Text.{Adds}
 use Rattle.command.proofs.TextLaws.{adds_append, adds_within}
 use Rattle.word72_items.specs.declared.Form.{Form}
 use Rattle.word72_items.specs.declared.Form.TheVariants.{Count, TwelveBit, Flags, Number, Time, Fill}
-use Rattle.subcom.specs.Parts.{bytes_in}
 use Rattle.word72_csv.specs.ItemLines.{form_text, form_line, form_words, item_line, item_lines}
 use Rattle.word72_csv.specs.Values.{hex_byte, hex_text}
 
@@ -39,11 +35,6 @@ unfolding hex_text
 hex_one_more bytes i h p q = rw (add-one, take-suc bytes i 0 h, concat_map-append, append-nil) (adds_append p q)
 
 -- ---- items one after the other
-
--- the bytes of an item, and none where it is refused
-pub lent_or : (r : Result (Bor (List ℕ)) Refusal) (none b : Bor (List ℕ)) → b ≡ result_unwrap_or r none → none.now ≡ [] → b.now ≡ bytes_in r
-lent_or (Ok part) none b e n = ap (λ (x : Bor (List ℕ)). x.now) e
-lent_or (Err r) none b e n = ap (λ (x : Bor (List ℕ)). x.now) e ∙ n
 
 pub no_items : (old : List ℕ) (year frame : ℕ) (column : List ℕ) (kind : ℕ) → Adds old 0 (item_lines year frame column kind 0) old 0
 unfolding item_lines

@@ -71,7 +71,7 @@ fn put_item(
             let formed = put_form(&mut *out, placed, found.form);
             let described = word72_descriptions::put_description(&mut *out, formed, kind, item);
             let reading = subcom::read(year, column, kind, item);
-            let bytes = subcom::part(column, kind, item).unwrap_or(&column[..0]);
+            let bytes = subcom::part(column, kind, item);
             value::put_reading(out, described, year, reading, bytes)
         }
         Err(refusal) => put_refused_frame(out, at, frame, refusal),

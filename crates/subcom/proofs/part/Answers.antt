@@ -1,14 +1,10 @@
--- `subcom::part` meets its contract: the part is that of the item's places, which lie within the column. Assumes nothing.
-use Rattle.std.proofs.Common.{arith, rules}
-use Rattle.word72_items.proofs.Answers.{to-told}
+-- `subcom::part` meets its contract: the part of `try_part`, and the empty part at the column's
+-- start where that is refused. Assumes nothing.
+use Rattle.std.proofs.Common.{refl, arith}
+use Rattle.subcom.proofs.Requests.{part_or_none}
 use Rattle.subcom.proofs.part.Goals as goal
 
-pub overflow_add-result : goal.overflow_add-result
-overflow_add-result c =
-    let S = (to-told _ _ _ c.in_ok-found.ensures).sound in
-    record { fits = omega arith }
-
-pub slice_bounds-result-end : goal.slice_bounds-result-end
-slice_bounds-result-end c =
-    let S = (to-told _ _ _ c.in_ok-found.ensures).sound in
-    search rules
+pub returns : goal.returns
+returns c =
+    let a = c.args in
+    part_or_none a.column.now a.column.ref_ptr a.kind a.item _ _ _ c.unwrap_or.ensures c.try_part.ensures refl refl (omega arith)

@@ -1,13 +1,12 @@
 -- `word72_csv::put_item` meets its contract: one part behind the other, or the frame's refusal. Assumes nothing.
-use Rattle.std.proofs.Common.{refl, sym, ◌∙◌}
+use Rattle.std.proofs.Common.{sym, ◌∙◌}
 use Rattle.command.proofs.TextLaws.{adds_append}
-use Rattle.word72_csv.proofs.Laws.{lent_or}
 use Rattle.word72_csv.proofs.put_item.Goals as goal
 
 pub returns-in-Ok : goal.returns-in-Ok
 returns-in-Ok c =
     let item = sym c.describe.ensures.answer ∙ c.in-Ok.is in
-    let bytes = lent_or c.part.result _ _ c.unwrap_or-bytes.ensures refl ∙ c.part.ensures.contents in
+    let bytes = c.part-bytes.ensures.contents in
     let named-so-far = adds_append (adds_append c.put_place-placed.ensures c.put_form-formed.ensures) c.put_description-described.ensures in
     rw (item, ← c.read-reading.ensures.answer, ← bytes) (adds_append named-so-far c.put_reading.ensures)
 
