@@ -9,7 +9,7 @@ use Rattle.book.specs.Layout.{entry_start, body_start, cycles_said, year_said}
 use Rattle.book.specs.Faults.{first_fault, fault_number, fault_entry}
 use Rattle.book.specs.Header.{header_lines, header_of, header_refusal}
 use Rattle.book_parts.specs.declared.Place.{Place}
-use Rattle.book_parts.specs.Parts.{part_lines, part_refusal, place, entry_place, body_place}
+use Rattle.book_parts.specs.Parts.{part_lines, part_refusal, place, try_entry_place, try_body_place}
 use Rattle.book_check.specs.Promise.{CheckPromise}
 use Rattle.book_api.specs.Books.{CheckCrossed, HeaderCrossed, EntryCrossed, BodyCrossed, place_or}
 
@@ -35,15 +35,15 @@ header_crossed b old r a p e =
     }
 
 module _ (b old : List ℕ) (i : ℕ) (r : Result Place Refusal) where
-  pub entry_crossed : (n : ℕ) (new : List ℕ) → r ≡ entry_place b i → n ≡ number_of r → new ≡ place_or old r → EntryCrossed b i n old new
-  unfolding entry_place part_refusal
+  pub entry_crossed : (n : ℕ) (new : List ℕ) → r ≡ try_entry_place b i → n ≡ number_of r → new ≡ place_or old r → EntryCrossed b i n old new
+  unfolding try_entry_place part_refusal
   entry_crossed n new e k is = record {
     refusal_is = k ∙ ap number_of e ∙ numbered (part_lines b i) (place (entry_start i) 12);
     numbers_are = is ∙ ap (place_or old) e ∙ answered-of (place_or old) Err (part_lines b i) (Ok (place (entry_start i) 12));
   }
 
-  pub body_crossed : (n : ℕ) (new : List ℕ) → r ≡ body_place b i → n ≡ number_of r → new ≡ place_or old r → BodyCrossed b i n old new
-  unfolding body_place part_refusal
+  pub body_crossed : (n : ℕ) (new : List ℕ) → r ≡ try_body_place b i → n ≡ number_of r → new ≡ place_or old r → BodyCrossed b i n old new
+  unfolding try_body_place part_refusal
   body_crossed n new e k is =
       let given = place (body_start (cycles_said b) i) 65536 in
       record {

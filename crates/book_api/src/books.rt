@@ -57,14 +57,14 @@ pub fn pcd_book_header(book: &[u8], out: &mut [u64; 2]) -> u8
 pub fn pcd_book_entry(book: &[u8], i: u64, out: &mut [u64; 2]) -> u8
     ensures { EntryCrossed book.now i result out.old out.new }
 {
-    pass_place(book_parts::entry_place(book, i), out)
+    pass_place(book_parts::try_entry_place(book, i), out)
 }
 
 // `out` gets the place of body i in the book, then its length.
 pub fn pcd_book_body(book: &[u8], i: u64, out: &mut [u64; 2]) -> u8
     ensures { BodyCrossed book.now i result out.old out.new }
 {
-    pass_place(book_parts::body_place(book, i), out)
+    pass_place(book_parts::try_body_place(book, i), out)
 }
 
 fn pass_place(place: Result<Place, Refusal>, out: &mut [u64; 2]) -> u8

@@ -90,8 +90,8 @@ fn step_both(first: &[u8], second: &[u8], i: u64, j: u64) -> Step
     if t < s {
         return past_second(i, j, t);
     }
-    let c = book_parts::body(first, i).unwrap();
-    let d = book_parts::body(second, j).unwrap();
+    let c = book_parts::body(first, i);
+    let d = book_parts::body(second, j);
     past_both(i, j, s, bodies::first_differing(c, d))
 }
 

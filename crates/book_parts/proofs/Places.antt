@@ -1,13 +1,14 @@
 -- The parts of a book: each way out of the entries that hand out parts or tell where they lie. Assumes nothing.
-use Rattle.std.proofs.Common.{◌≡◌, refl, sym, ap, ◌∙◌, Bool, true, false, cond, not, List, [], ◌∷◌, ℕ, ◌+◌, ◌*◌, ◌≤◌, ◌<◌, leb, length, Result, Ok, Err, IsOk}
+use Rattle.std.proofs.Common.{◌≡◌, refl, sym, ap, ◌∙◌, Bool, true, false, cond, not, List, ℕ, ◌+◌, ◌*◌, ◌≤◌, ◌<◌, leb, length, Result, Ok, Err, IfOk}
+use Rattle.std.specs.Result.{result_unwrap_or}
 use native.Mathlib.Omega.{arith}
 use borrow.Author.Tests.{leb-false, le-leb, lt-leb, not-false}
 use borrow.Rule.Slice.Shared.{by_byte}
 use denote.Ref.{Bor}
 use Rattle.base.specs.declared.refusal.Refusal.{Refusal}
 use Rattle.base.specs.declared.refusal.Refusal.TheVariants.{WrongBookLength, NoSuchEntry}
-use Rattle.base.specs.Refusals.{Line, answered, number}
-use Rattle.base.proofs.Lines.{ok-none}
+use Rattle.base.specs.Refusals.{Line, answered}
+use Rattle.base.proofs.Lines.{ok-none, answered-of}
 use Rattle.book.specs.declared.header.Header.{Header}
 use Rattle.book.specs.Layout.{entry_start, body_start, cycles_said}
 use Rattle.book.specs.Header.{has_size, header_lines, header_of}
@@ -15,7 +16,8 @@ use Rattle.book.specs.Sought.{Sized}
 use Rattle.book.proofs.Answered.{stops}
 use Rattle.book.proofs.Headers.{sizes}
 use Rattle.book_parts.specs.declared.Place.{Place}
-use Rattle.book_parts.specs.Parts.{part_lines, place, entry_place, body_place, IsPart, HandsOut, PlacePromise}
+use Rattle.book_parts.specs.Parts.{part_lines, place, nowhere, IsPart, PlacePromise}
+use Rattle.book_parts.specs.Parts.{try_entry_place, try_body_place, HandsOut, TryPlacePromise}
 
 -- ---- whether there is an entry i
 
@@ -65,28 +67,46 @@ module _ (b : List ℕ) (i : ℕ) where
 -- ---- places
 module _ (b : List ℕ) (i : ℕ) where
   module _ (e : Refusal) (no : past b i ≡ Err e) where
-    pub entry-refused : PlacePromise b (entry_place b i) (Err e)
-    unfolding entry_place
+    pub entry-refused : TryPlacePromise b (try_entry_place b i) (Err e)
+    unfolding try_entry_place
     entry-refused = record { is = sym (stops (part_lines b i) (cycles_said b) e no Err (Ok (place (entry_start i) 12))); within = tt }
 
-    pub body_refused : PlacePromise b (body_place b i) (Err e)
-    unfolding body_place
+    pub body_refused : TryPlacePromise b (try_body_place b i) (Err e)
+    unfolding try_body_place
     body_refused = record { is = sym (stops (part_lines b i) (cycles_said b) e no Err (Ok (place (body_start (cycles_said b) i) 65536))); within = tt }
 
   module _ (t : There b i) where
-    pub entry-there : PlacePromise b (entry_place b i) (Ok (place (4 + 12 * i) 12))
-    unfolding entry_place
+    pub entry-there : TryPlacePromise b (try_entry_place b i) (Ok (place (4 + 12 * i) 12))
+    unfolding try_entry_place
     entry-there =
         let s = t.size in
         let l = t.below in
         record { is = rw (t.tested, lt-leb (cycles_said b) i l); within = omega arith }
 
-    pub body-there : (start : ℕ) → start ≡ body_start (cycles_said b) i → PlacePromise b (body_place b i) (Ok (place start 65536))
-    unfolding body_place
+    pub body-there : (start : ℕ) → start ≡ body_start (cycles_said b) i → TryPlacePromise b (try_body_place b i) (Ok (place start 65536))
+    unfolding try_body_place
     body-there start e =
         let s = t.size in
         let l = t.below in
         record { is = rw (e, t.tested, lt-leb (cycles_said b) i l); within = omega arith }
+
+-- the place, or nowhere where it is refused
+abbrev or_nowhere : Result Place Refusal → Place
+or_nowhere r = result_unwrap_or r nowhere
+
+-- a refused place is nowhere, and a given one is the place
+pub placed : (b : List ℕ) (ls : List Line) (given : Place) (r : Result Place Refusal) (q : Place)
+    → TryPlacePromise b (answered Err ls (Ok given)) r → q ≡ or_nowhere r
+    → PlacePromise b (answered (λ n. nowhere) ls given) q
+placed b ls given r q h e = record {
+  is = e ∙ ap or_nowhere h.is ∙ answered-of or_nowhere Err ls (Ok given);
+  within = rw e (go r h.within);
+}
+  where
+    go : (r : Result Place Refusal) → IfOk r (λ p. p.start + p.length ≤ length b)
+        → let p = or_nowhere r in p.start + p.length ≤ length b
+    go (Ok p) h = h
+    go (Err f) h = omega arith
 
 -- ---- what is handed out
 module _ (s : Bor (List ℕ)) where
@@ -97,13 +117,6 @@ module _ (s : Bor (List ℕ)) where
   pub given_place : (p : Result Place Refusal) (r : Bor (List ℕ)) → HandsOut (Ok r) s p → (q : Place) × (p ≡ Ok q) × IsPart r s q
   given_place (Ok q) r = λ h. (q, refl, h)
   given_place (Err e) r = λ h. absurd h
-
-  -- where there is a place, a part is handed out
-  pub is_given : (p : Result Place Refusal) (q : Place) (r : Result (Bor (List ℕ)) Refusal) → p ≡ Ok q → HandsOut r s p → IsOk r
-  is_given (Ok p) q (Ok r) = λ e h. refl
-  is_given (Ok p) q (Err f) = λ e h. absurd h
-  is_given (Err p) q (Ok r) = λ e h. absurd h
-  is_given (Err p) q (Err f) = λ e h. cc
 
 -- the pointer of a part that starts k on
 pub starts : (k o : ℕ) → by_byte k o ≡ o + k

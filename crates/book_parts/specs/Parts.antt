@@ -30,11 +30,22 @@ pub record Entered (b : List ℕ) (i : ℕ) : Type 0 where
 abbrev pub place : ℕ → ℕ → Place
 place start length = record { start = start; length = length }
 
-unfoldable pub entry_place : List ℕ → ℕ → Result Place Refusal
-entry_place b i = answered Err (part_lines b i) (Ok (place (entry_start i) entry_length))
+-- nothing is handed out
+abbrev pub nowhere : Place
+nowhere = place 0 0
 
-unfoldable pub body_place : List ℕ → ℕ → Result Place Refusal
-body_place b i = answered Err (part_lines b i) (Ok (place (body_start (cycles_said b) i) cycle_length))
+unfoldable pub entry_place : List ℕ → ℕ → Place
+entry_place b i = answered (λ n. nowhere) (part_lines b i) (place (entry_start i) entry_length)
+
+unfoldable pub body_place : List ℕ → ℕ → Place
+body_place b i = answered (λ n. nowhere) (part_lines b i) (place (body_start (cycles_said b) i) cycle_length)
+
+-- the same, with the reason where there is no place
+unfoldable pub try_entry_place : List ℕ → ℕ → Result Place Refusal
+try_entry_place b i = answered Err (part_lines b i) (Ok (place (entry_start i) entry_length))
+
+unfoldable pub try_body_place : List ℕ → ℕ → Result Place Refusal
+try_body_place b i = answered Err (part_lines b i) (Ok (place (body_start (cycles_said b) i) cycle_length))
 
 -- r is the part of s at this place: it reads as those bytes, and is the caller's own memory, from the place's start on
 pub record IsPart (r s : Bor (List ℕ)) (p : Place) : Type 0 where
@@ -50,6 +61,11 @@ HandsOut (Err e) s (Ok p) = ⊥
 HandsOut (Err e) s (Err f) = e ≡ f
 
 -- a place that is told of the book b: it is this one, and lies within the book
-pub record PlacePromise (b : List ℕ) (p r : Result Place Refusal) : Type 0 where
+pub record PlacePromise (b : List ℕ) (p r : Place) : Type 0 where
+  pub is : r ≡ p
+  pub within : r.start + r.length ≤ length b
+
+-- the same of a place or its refusal
+pub record TryPlacePromise (b : List ℕ) (p r : Result Place Refusal) : Type 0 where
   pub is : r ≡ p
   pub within : IfOk r (λ q. q.start + q.length ≤ length b)

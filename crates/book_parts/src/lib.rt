@@ -5,7 +5,9 @@
 ghost use Rattle.std.specs.Prelude.{◌≡◌, ◌+◌, ◌≤◌, length, Ok, Err};
 ghost use Rattle.base.specs.Refusals.{answered};
 ghost use Rattle.book.specs.Layout.{cycles_said};
-ghost use Rattle.book_parts.specs.Parts.{part_lines, instant_told, entry_place, body_place, HandsOut, IsPart, PlacePromise};
+ghost use Rattle.book_parts.specs.Parts.{part_lines, instant_told};
+ghost use Rattle.book_parts.specs.Parts.{entry_place, body_place, IsPart, PlacePromise};
+ghost use Rattle.book_parts.specs.Parts.{try_entry_place, try_body_place, HandsOut, TryPlacePromise};
 
 use base::big_endian;
 use base::refusal::Refusal;
@@ -19,21 +21,43 @@ pub struct Place {
     pub length: usize,
 }
 
-// The 12 bytes of entry i, no copy. Refused as its place is.
-pub fn entry(bytes: &[u8], i: u64) -> Result<&[u8], Refusal>
-    ensures { HandsOut result bytes.entry (entry_place bytes.now i) }
+// A refused part is the empty one at the start of the caller's bytes.
+const NOWHERE: Place = Place {
+    start: 0,
+    length: 0,
+};
+
+// The 12 bytes of entry i, no copy; an empty part where it is refused.
+pub fn entry(bytes: &[u8], i: u64) -> &[u8]
+    ensures { IsPart result bytes.entry (entry_place bytes.now i) }
 {
-    match entry_place(bytes, i) {
+    let place = entry_place(bytes, i);
+    part(bytes, place)
+}
+
+// The 65,536 bytes of body i, no copy; an empty part where it is refused.
+pub fn body(bytes: &[u8], i: u64) -> &[u8]
+    ensures { IsPart result bytes.entry (body_place bytes.now i) }
+{
+    let place = body_place(bytes, i);
+    part(bytes, place)
+}
+
+// Entry i, or why it is refused: as its place is.
+pub fn try_entry(bytes: &[u8], i: u64) -> Result<&[u8], Refusal>
+    ensures { HandsOut result bytes.entry (try_entry_place bytes.now i) }
+{
+    match try_entry_place(bytes, i) {
         Ok(place) => Ok(part(bytes, place)),
         Err(refusal) => Err(refusal),
     }
 }
 
-// The 65,536 bytes of body i, no copy. Refused as its place is.
-pub fn body(bytes: &[u8], i: u64) -> Result<&[u8], Refusal>
-    ensures { HandsOut result bytes.entry (body_place bytes.now i) }
+// Body i, or why it is refused: as its place is.
+pub fn try_body(bytes: &[u8], i: u64) -> Result<&[u8], Refusal>
+    ensures { HandsOut result bytes.entry (try_body_place bytes.now i) }
 {
-    match body_place(bytes, i) {
+    match try_body_place(bytes, i) {
         Ok(place) => Ok(part(bytes, place)),
         Err(refusal) => Err(refusal),
     }
@@ -44,15 +68,29 @@ pub fn body(bytes: &[u8], i: u64) -> Result<&[u8], Refusal>
 pub fn instant(bytes: &[u8], i: u64) -> u64
     ensures { result ≡ instant_told bytes.now i }
 {
-    match entry(bytes, i) {
+    match try_entry(bytes, i) {
         Ok(held) => big_endian::read(&held[0..8]),
         Err(_) => 0,
     }
 }
 
-// Where entry i lies. Refused 16: the length, or more than 255 cycles. Refused 20: no entry i.
-pub fn entry_place(bytes: &[u8], i: u64) -> Result<Place, Refusal>
+// Where entry i lies; 0 and 0 where it is refused.
+pub fn entry_place(bytes: &[u8], i: u64) -> Place
     ensures { PlacePromise bytes.now (entry_place bytes.now i) result }
+{
+    try_entry_place(bytes, i).unwrap_or(NOWHERE)
+}
+
+// Where body i lies; 0 and 0 where it is refused.
+pub fn body_place(bytes: &[u8], i: u64) -> Place
+    ensures { PlacePromise bytes.now (body_place bytes.now i) result }
+{
+    try_body_place(bytes, i).unwrap_or(NOWHERE)
+}
+
+// Where entry i lies. Refused 16: the length, or more than 255 cycles. Refused 20: no entry i.
+pub fn try_entry_place(bytes: &[u8], i: u64) -> Result<Place, Refusal>
+    ensures { TryPlacePromise bytes.now (try_entry_place bytes.now i) result }
 {
     cycles_past(bytes, i)?;
     Ok(Place {
@@ -62,8 +100,8 @@ pub fn entry_place(bytes: &[u8], i: u64) -> Result<Place, Refusal>
 }
 
 // Where body i lies. Refused as of entry i.
-pub fn body_place(bytes: &[u8], i: u64) -> Result<Place, Refusal>
-    ensures { PlacePromise bytes.now (body_place bytes.now i) result }
+pub fn try_body_place(bytes: &[u8], i: u64) -> Result<Place, Refusal>
+    ensures { TryPlacePromise bytes.now (try_body_place bytes.now i) result }
 {
     let n = cycles_past(bytes, i)?;
     Ok(Place {

@@ -4,10 +4,8 @@
 
 ghost use Rattle.std.specs.Prelude.{◌≡◌, length};
 
-use base::format;
-use base::refusal::{self, Refusal};
+use base::{format, refusal};
 use book::Fault;
-use book_parts::Place;
 use cycle::CYCLE;
 use std::io;
 use std::io::Input;
@@ -248,29 +246,23 @@ fn put_parts(rt: &impl Print, bytes: &[u8], i: u64) -> io::Result<()> {
 
 // By the slice, with the places; a part that is refused is an empty one at 0.
 fn put_placed(rt: &impl Print, bytes: &[u8], i: u64) -> io::Result<()> {
+    let number = refusal::code(book_parts::try_entry_place(bytes, i));
     let place = book_parts::entry_place(bytes, i);
-    field(rt, b"part ", u64::from(refusal::code(place)))?;
-    field(rt, b" entry ", start_of(place))?;
-    put_entry(rt, book_parts::entry(bytes, i).unwrap_or(&bytes[..0]))?;
-    field(rt, b" body ", start_of(book_parts::body_place(bytes, i)))?;
-    put_body_sum(rt, book_parts::body(bytes, i).unwrap_or(&bytes[..0]))
-}
-
-fn start_of(place: Result<Place, Refusal>) -> u64 {
-    match place {
-        Ok(p) => p.start as u64,
-        Err(_) => 0,
-    }
+    field(rt, b"part ", u64::from(number))?;
+    field(rt, b" entry ", place.start as u64)?;
+    put_entry(rt, book_parts::entry(bytes, i))?;
+    field(rt, b" body ", book_parts::body_place(bytes, i).start as u64)?;
+    put_body_sum(rt, book_parts::body(bytes, i))
 }
 
 // Through a view.
 fn put_viewed(rt: &impl Print, bytes: &[u8], i: u64) -> io::Result<()> {
-    let entry = book_view::entry_of(bytes, i);
-    field(rt, b"view ", u64::from(refusal::code(entry)))?;
+    let number = refusal::code(book_view::try_entry_of(bytes, i));
+    field(rt, b"view ", u64::from(number))?;
     put(rt, b" entry")?;
-    put_entry(rt, entry.unwrap_or(&bytes[..0]))?;
+    put_entry(rt, book_view::entry_of(bytes, i))?;
     put(rt, b" body")?;
-    put_body_sum(rt, book_view::body_of(bytes, i).unwrap_or(&bytes[..0]))
+    put_body_sum(rt, book_view::body_of(bytes, i))
 }
 
 fn put_entry(rt: &impl Print, entry: &[u8]) -> io::Result<()> {

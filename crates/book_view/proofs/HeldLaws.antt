@@ -8,12 +8,11 @@ use denote.Ref.{Bor}
 use borrow.Author.Tests.{eq-eqb, ne_eqb}
 use borrow.Rule.Slice.Shared.{by_byte}
 use Rattle.base.specs.declared.refusal.Refusal.{Refusal}
-use Rattle.base.specs.Refusals.{number_of}
 use Rattle.book_parts.specs.declared.Place.{Place}
 use Rattle.book.specs.Layout.{bytes_at}
 use Rattle.book.specs.Faults.{view_refusal}
-use Rattle.book_parts.specs.Parts.{place, IsPart, HandsOut}
-use Rattle.book_view.specs.Held.{nowhere, held_place, held_of}
+use Rattle.book_parts.specs.Parts.{place, nowhere, IsPart, HandsOut}
+use Rattle.book_view.specs.Held.{held_place, held_of}
 
 -- ---- what is held
 pub all_held : (b : List ℕ) → view_refusal b ≡ 0 → held_place b ≡ place 0 (length b)
@@ -57,28 +56,54 @@ starts_at b = go (eqb (view_refusal b) 0)
 pub now-held : (w s : Bor (List ℕ)) → IsPart w s (held_place s.now) → w.now ≡ held_of s.now
 now-held w s h = h.contents_are ∙ held-is s.now
 
--- a part of what is held, which has no place where nothing is held, is a part of the slice
-module _ (P : List ℕ → Result Place Refusal) (why : Refusal) (none : P [] ≡ Err why) where
-  same_bytes : (b : List ℕ) (p : Place) → P (held_of b) ≡ Ok p → bytes_at p.start p.length (held_of b) ≡ bytes_at p.start p.length b
-  unfolding held_of
-  same_bytes b p = go (eqb (view_refusal b) 0)
-    where
-      go : (t : Bool) → P (cond t b []) ≡ Ok p → bytes_at p.start p.length (cond t b []) ≡ bytes_at p.start p.length b
-      go true = λ e. refl
-      go false = λ e. cc
+-- a place that is nowhere if nothing is held
+abbrev pub OfHeld : List ℕ → Place → Type 0
+OfHeld b p = held_of b ≡ [] → p ≡ nowhere
 
-  pub part-through : (r : Result (Bor (List ℕ)) Refusal) (w s : Bor (List ℕ)) → IsPart w s (held_place s.now) → HandsOut r w (P w.now)
-      → HandsOut r s (P (held_of s.now))
-  part-through r w s h e = rw (now-held w s h) at (go r (P w.now) (ap P (sym (now-held w s h))) e)
-    where
-      go : (r : Result (Bor (List ℕ)) Refusal) (p : Result Place Refusal) → P (held_of s.now) ≡ p → HandsOut r w p → HandsOut r s p
-      go (Err f) (Err g) is e = e
-      go (Err f) (Ok p) is e = e
-      go (Ok r) (Err g) is e = e
-      go (Ok r) (Ok p) is e =
-          record {
-            contents_are =
-                e.contents_are ∙ ap (λ (l : List ℕ). bytes_at p.start p.length l) (now-held w s h) ∙ same_bytes s.now p is;
-            block = e.block ∙ h.block;
-            offset = let a = e.offset in let b = h.offset in let start = starts_at s.now in omega (arith, a, b, start);
-          }
+same_bytes : (b : List ℕ) (p : Place) → OfHeld b p
+    → bytes_at p.start p.length (held_of b) ≡ bytes_at p.start p.length b
+unfolding held_of
+same_bytes b p = go (eqb (view_refusal b) 0)
+  where
+    go : (t : Bool) → (cond t b [] ≡ [] → p ≡ nowhere)
+        → bytes_at p.start p.length (cond t b []) ≡ bytes_at p.start p.length b
+    go true none = refl
+    go false none = rw (none refl)
+
+-- a part of what is held is a part of the slice
+part_of-slice : (r w s : Bor (List ℕ)) (p : Place) → IsPart w s (held_place s.now)
+    → OfHeld s.now p → IsPart r w p → IsPart r s p
+part_of-slice r w s p h none e =
+    record {
+      contents_are =
+          e.contents_are
+          ∙ ap (λ (l : List ℕ). bytes_at p.start p.length l) (now-held w s h)
+          ∙ same_bytes s.now p none;
+      block = e.block ∙ h.block;
+      offset =
+          let a = e.offset in
+          let b = h.offset in
+          let start = starts_at s.now in
+          omega (arith, a, b, start);
+    }
+
+-- the place of a part is nowhere if nothing is held
+pub part-through : (P : List ℕ → Place) → P [] ≡ nowhere → (r w s : Bor (List ℕ))
+    → IsPart w s (held_place s.now) → IsPart r w (P w.now) → IsPart r s (P (held_of s.now))
+part-through P none r w s h e =
+    let then_nowhere : OfHeld s.now (P w.now) = λ held. ap P (now-held w s h ∙ held) ∙ none in
+    rw (now-held w s h) at (part_of-slice r w s (P w.now) h then_nowhere e)
+
+-- a part that may be refused has no place if nothing is held
+pub tried-through : (P : List ℕ → Result Place Refusal) (why : Refusal) → P [] ≡ Err why
+    → (r : Result (Bor (List ℕ)) Refusal) (w s : Bor (List ℕ))
+    → IsPart w s (held_place s.now) → HandsOut r w (P w.now) → HandsOut r s (P (held_of s.now))
+tried-through P why none r w s h e = rw (now-held w s h) at (go r (P w.now) refl e)
+  where
+    go : (r : Result (Bor (List ℕ)) Refusal) (p : Result Place Refusal)
+        → P w.now ≡ p → HandsOut r w p → HandsOut r s p
+    go (Err f) (Err g) is e = e
+    go (Err f) (Ok p) is e = e
+    go (Ok r) (Err g) is e = e
+    go (Ok r) (Ok p) is e =
+        part_of-slice r w s p h (λ held. let given = ap P (now-held w s h ∙ held) ∙ none in cc) e

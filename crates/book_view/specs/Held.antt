@@ -2,11 +2,7 @@
 use Rattle.std.specs.Prelude.{cond, List, [], ℕ, eqb, length}
 use Rattle.book_parts.specs.declared.Place.{Place}
 use Rattle.book.specs.Faults.{view_refusal}
-use Rattle.book_parts.specs.Parts.{place}
-
--- nothing
-abbrev pub nowhere : Place
-nowhere = place 0 0
+use Rattle.book_parts.specs.Parts.{place, nowhere}
 
 -- the book, from its first byte to its last; nothing where it is refused
 unfoldable pub held_place : List ℕ → Place

@@ -1,16 +1,15 @@
 -- `book_view::body_of` meets its contract: a part of what a view holds is a part of the slice. Assumes nothing.
-use Rattle.std.proofs.Common.{◌≡◌, refl, [], ℕ, Err}
-use Rattle.base.specs.declared.refusal.Refusal.TheVariants.{WrongBookLength}
+use Rattle.std.proofs.Common.{◌≡◌, refl, [], ℕ}
 use Rattle.book.specs.Header.{has_size}
-use Rattle.book_parts.specs.Parts.{body_place}
+use Rattle.book_parts.specs.Parts.{body_place, nowhere}
 use Rattle.book_view.proofs.HeldLaws.{part-through}
 use Rattle.book_view.proofs.body_of.Goals as goal
 
-none : (i : ℕ) → body_place [] i ≡ Err WrongBookLength
+none : (i : ℕ) → body_place [] i ≡ nowhere
 unfolding body_place has_size
 none i = refl
 
 pub returns : goal.returns
 returns c =
     let a = c.args in
-    part-through (λ l. body_place l a.i) WrongBookLength (none a.i) c.body.result c.view.result.bytes a.bytes c.view.ensures c.body.ensures
+    part-through (λ l. body_place l a.i) (none a.i) c.body.result c.view.result.bytes a.bytes c.view.ensures c.body.ensures

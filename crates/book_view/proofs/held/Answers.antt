@@ -1,5 +1,5 @@
 -- `book_view::held` meets its contract: all of the bytes, or none. Assumes nothing.
-use Rattle.std.proofs.Common.{refl, sym, ap, ◌∙◌, ◌≡◌, ℕ}
+use Rattle.std.proofs.Common.{refl, sym, ap, ◌∙◌}
 use Rattle.base.specs.Refusals.{number_of}
 use Rattle.base.proofs.Lines.{positive}
 use Rattle.book_view.proofs.HeldLaws.{all_held, none-held, from_start, whole, at-start}

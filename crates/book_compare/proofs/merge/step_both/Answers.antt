@@ -3,7 +3,7 @@ use mathlib.Core.Path.{sym, ap, ◌∙◌}
 use native.Mathlib.Omega.{arith}
 use lib.ListN.{length}
 use Rattle.book.proofs.Headers.{few_cycles}
-use Rattle.book_parts.proofs.Held.{instant-there, body-given, body_bytes, body-length}
+use Rattle.book_parts.proofs.Held.{instant-there, body_bytes, body-length}
 use Rattle.book_compare.proofs.Merging.{first-lower, second-lower, together-past}
 use Rattle.book_compare.proofs.FirstByte.{differing_same}
 use Rattle.book_compare.proofs.merge.step_both.Goals as goal
@@ -32,16 +32,10 @@ returns-then-t-s c =
     let t = c.instant-t.ensures ∙ instant-there _ _ c.requires.1 in
     second-lower _ _ _ _ _ c.requires.0 c.requires.1 _ _ s t c.if-t-s.true c.past_second.ensures
 
-pub unwrap-c-requires : goal.unwrap-c-requires
-unwrap-c-requires c = body-given c.args.first c.args.i c.requires.0 _ c.body.ensures
-
-pub unwrap-d-requires : goal.unwrap-d-requires
-unwrap-d-requires c = body-given c.args.second c.args.j c.requires.1 _ c.body-2.ensures
-
 pub first_differing-requires : goal.first_differing-requires
 first_differing-requires c =
-    let first = body_bytes c.args.first c.args.i c.requires.0 _ (rw c.unwrap-c.ensures at c.body.ensures) in
-    let second = body_bytes c.args.second c.args.j c.requires.1 _ (rw c.unwrap-d.ensures at c.body-2.ensures) in
+    let first = body_bytes _ _ c.requires.0 _ c.body-c.ensures.contents_are in
+    let second = body_bytes _ _ c.requires.1 _ c.body-d.ensures.contents_are in
     ap length first ∙ body-length _ _ c.requires.0 ∙ sym (body-length _ _ c.requires.1) ∙ sym (ap length second)
 
 pub past_both-requires : goal.past_both-requires
@@ -54,8 +48,8 @@ past_both-requires c =
 
 pub returns : goal.returns
 returns c =
-    let first = body_bytes c.args.first c.args.i c.requires.0 _ (rw c.unwrap-c.ensures at c.body.ensures) in
-    let second = body_bytes c.args.second c.args.j c.requires.1 _ (rw c.unwrap-d.ensures at c.body-2.ensures) in
+    let first = body_bytes _ _ c.requires.0 _ c.body-c.ensures.contents_are in
+    let second = body_bytes _ _ c.requires.1 _ c.body-d.ensures.contents_are in
     let place = c.first_differing.ensures ∙ differing_same first second in
     let not_lower = c.if-s-t.false in
     let not-higher = c.if-t-s.false in
