@@ -16,7 +16,7 @@ use Rattle.book_api.specs.Books.{CheckCrossed, HeaderCrossed, EntryCrossed, Body
 -- each case of the verdict is the first fault
 pub check_crossed : (b : List ℕ) (r a : Result Unit Fault) → CheckPromise b r → r ≡ a → CheckCrossed b (fault_number a) (fault_entry a)
 check_crossed b r a p e =
-    let is : a ≡ first_fault b = sym e ∙ p.fault_is in
+    let is : a ≡ first_fault b = sym e ∙ p.first_is in
     record { number_is = ap fault_number is; entry-is = ap fault_entry is }
 
 -- what an answer leaves, given as numbers

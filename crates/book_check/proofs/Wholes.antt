@@ -13,7 +13,6 @@ use lib.Seq.{drop-drop, length-take-le, take-add, drop-append-le, take-append-le
 use borrow.Author.Tests.{not-false, le-leb, eq-eqb, eqb-true}
 use Rattle.base.specs.Numbers.{big_endian, bytes_of}
 use Rattle.base.specs.Ranges.{tabulate, joined}
-use Rattle.base.specs.declared.refusal.Refusal.TheVariants.{WrongLength}
 use Rattle.base.specs.Refusals.{refusal}
 use Rattle.base.specs.Rows.{row, rows}
 use Rattle.base.proofs.Numbers.{Bytes, written_back, take-bytes, drop-bytes}

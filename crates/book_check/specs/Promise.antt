@@ -4,13 +4,14 @@ use Rattle.std.proofs.Math.Pow.{are_bytes}
 use Rattle.book.specs.Layout.{book, year_said, cycles_of}
 use Rattle.book.specs.declared.faults.Fault.{Fault}
 use Rattle.book.specs.Faults.{first_fault}
-use Rattle.book_check.specs.Checking.{verdict, Given}
+use Rattle.book_check.specs.Checking.{verdict, FaultIs, Given}
 
 -- `check` of the bytes b answers r
 pub record CheckPromise (b : List ℕ) (r : Result Unit Fault) : Type 0 where
   pub answer : r ≡ verdict b
+  pub first_is : r ≡ first_fault b
   -- the number and the entry of this answer are those of the list of faults
-  pub fault_is : r ≡ first_fault b
+  pub fault_is : FaultIs b r
   -- yes, exactly of what the writer gives for some year and some list of cycles
   pub yes_given : r ≡ Ok tt → Given b
   pub given_yes : Given b → r ≡ Ok tt

@@ -1,7 +1,8 @@
 -- A whole reel by steps. What is read so far is a list of calls that locks on a frame's own sync, which has taken the stream as far as the place reached;
 -- the claim about that list bounds its lead-ins, so that no step is refused. Assumes nothing.
 use Rattle.std.proofs.Common.{◌≡◌, refl, sym, ap, ◌∙◌, Bool, true, false, cond, not, List, [], ◌∷◌, ◌++◌}
-use Rattle.std.proofs.Common.{ℕ, zero, suc, ◌+◌, ◌-◌, ◌^◌, ◌≤◌, ◌<◌, Result, Ok, Err, IsOkAnd}
+use Rattle.std.proofs.Common.{ℕ, zero, suc, ◌+◌, ◌-◌, ◌^◌, ◌≤◌, ◌<◌, Result, Ok, Err, IsOk}
+use Rattle.std.specs.Result.{result_and}
 use native.Mathlib.Omega.{arith}
 use lib.Dec.{eqb, ltb, eqb-suc-zero}
 use lib.ListN.{length, take, drop, length-append, length-drop}
@@ -9,7 +10,7 @@ use lib.Seq.{take-add, take_all, length-take-le}
 use borrow.Author.Tests.{lt-ltb, le-ltb, ltb-false, eqb-true, eq-eqb, ne_eqb}
 use Rattle.base.specs.Lists.{one}
 use Rattle.base.specs.declared.refusal.Refusal.{Refusal}
-use Rattle.base.specs.Refusals.{number}
+use Rattle.base.specs.Refusals.{number, number_of}
 use Rattle.base.proofs.Lines.{positive}
 use Rattle.labelling.specs.declared.Tally.{Tally}
 use Rattle.labelling.specs.Words.{words}
@@ -148,7 +149,7 @@ module _ (rule : ℕ) (is_rule_fact : is_rule rule ≡ true) (s old : List ℕ) 
         kept = same ∙ i.kept;
       }
 
-    pub read-ends : length s ≤ at → WholeReel rule s old (record { paid = n; feeder = f }) a
+    pub read-ends : length s ≤ at → WholeReel rule s old (record { answer = Ok tt; paid = n; feeder = f }) a
     read-ends h =
         let all : take at s ≡ s = take_all at s h in
         record { calls = i.calls; relocks = rw all at i.relocks; once = rw all at once; paid-is = i.paid-is }
@@ -158,10 +159,11 @@ module _ (rule : ℕ) (is_rule_fact : is_rule rule ≡ true) (s old : List ℕ) 
 pub refused-rule : (n stream area : ℕ) → (n ≡ 0 → ⊥) → n ≡ refusal_after n stream area
 refused-rule n stream area h = rw (ne_eqb n 0 h)
 
--- a step of an accepted reading does not answer by a refusal
-pub step_answers : {f : Feeder} {piece old new : List ℕ} {ends : Bool} (e : Refusal) → RelockPromise f piece ends old (Err e) new
-    → relock_refusal f (length piece) (length old) ≡ 0 → ⊥
-step_answers e p z = positive e (p.refusal_is ∙ z)
+-- a step of an accepted reading is not refused
+pub step_answers : {f : Feeder} {piece old new : List ℕ} {ends : Bool} (r : Result Relocked Refusal) → RelockPromise f piece ends old r new
+    → relock_refusal f (length piece) (length old) ≡ 0 → IsOk r
+step_answers (Ok x) p z = refl
+step_answers (Err e) p z = absurd (positive e (p.refusal_is ∙ z))
 
 module _ (stream area : ℕ) where
   pub refused-area : (area ≡ 16384 → ⊥) → 2 ≡ refusal_after 0 stream area
@@ -181,6 +183,11 @@ rule-refused rule stream area e q = rw (← q) (refused-rule (number e) stream a
 pub by_lengths : (rule stream area n : ℕ) → 0 ≡ fresh_refusal rule → n ≡ refusal_after 0 stream area → n ≡ read_refusal rule stream area
 unfolding read_refusal
 by_lengths rule stream area n z q = rw (← z) q
+
+pub by_both : (rule stream area : ℕ) (a b : Result Unit Refusal) → number_of a ≡ fresh_refusal rule → number_of b ≡ refusal_after 0 stream area
+    → number_of (result_and a b) ≡ read_refusal rule stream area
+by_both rule stream area (Ok u) b p q = by_lengths rule stream area (number_of b) p q
+by_both rule stream area (Err e) b p q = rule-refused rule stream area e p
 
 -- what an accepted reading has shown
 pub record ReadAccepts (n stream area : ℕ) : Type 0 where
@@ -225,8 +232,13 @@ module _ (rule : ℕ) (stream old : List ℕ) (t : Tally) (e : t ≡ fresh (rule
   begun-is : begun ≡ beginning (rule_given rule)
   begun-is = ap (λ (x : Tally). record { tally = x; awaits = false; handed = 0 }) e
 
-  pub read-refused : (e : Refusal) → number e ≡ read_refusal rule (length stream) (length old) → ReadPromise rule stream old (Err e) old
-  read-refused e q = record { refusal_is = q; refused = λ k z. (refl, refl); accepted = λ z. absurd (positive e z) }
+  pub read-refused : (e : Refusal) → number e ≡ read_refusal rule (length stream) (length old)
+      → ReadPromise rule stream old (record { answer = Err e; paid = 0; feeder = begun }) old
+  read-refused e q = record {
+    refusal_is = q;
+    refused = λ k z. let given : Feeder → Reel = λ f. record { answer = Err e; paid = 0; feeder = f } in (ap given begun-is, refl);
+    accepted = λ z. absurd (positive e z);
+  }
 
   module _ (z : read_refusal rule (length stream) (length old) ≡ 0) where
     accepting : ReadAccepts (fresh_refusal rule) (length stream) (length old)
@@ -244,10 +256,9 @@ module _ (rule : ℕ) (stream old : List ℕ) (t : Tally) (e : t ≡ fresh (rule
       whole-area = accepting.whole-area;
     }
 
-    pub read_whole : (r : Result Reel Refusal) (new : List ℕ) → IsOkAnd r (λ x. ReadAll begun stream old x new) → ReadPromise rule stream old r new
-    read_whole (Ok x) new p = record {
-      refusal_is = sym z;
-      refused = λ n q. absurd (omega arith);
+    pub read_whole : (r : Reel) (new : List ℕ) → ReadAll begun stream old r new → ReadPromise rule stream old r new
+    read_whole r new p = record {
+      refusal_is = p.no_refusal ∙ sym z;
+      refused = λ n q. absurd (omega (arith, p.no_refusal));
       accepted = λ q. rw carried at p.whole;
     }
-    read_whole (Err e) new p = absurd p

@@ -2,7 +2,7 @@
 use Rattle.std.specs.Prelude.{◌≡◌, true, false, cond, not, List, [], ◌∷◌, ℕ, suc, ◌-◌, ◌^◌, ◌≤◌, eqb, ltb, length, Result}
 use Rattle.base.specs.Format.{major_frame}
 use Rattle.base.specs.declared.refusal.Refusal.{Refusal}
-use Rattle.base.specs.Refusals.{◌when◌, refusal, number_of, given_or}
+use Rattle.base.specs.Refusals.{◌when◌, refusal, number_of}
 use Rattle.base.specs.declared.refusal.Refusal.TheVariants.{WrongLength, TooManyBytes}
 use Rattle.labelling.specs.Machine.{fresh}
 use Rattle.labelling.specs.Order.{is_rule}
@@ -34,19 +34,15 @@ pub record WholeReel (rule : ℕ) (stream old : List ℕ) (r : Reel) (new : List
   pub once : OwnOnce rule old stream calls r.feeder.tally new r.feeder.handed
   pub paid-is : r.paid ≡ length (paid calls)
 
--- nothing is read, and nothing paid
-abbrev pub unread : ℕ → Reel
-unread rule = record { paid = 0; feeder = beginning (rule_given rule) }
-
--- what has come of a reading by a rule that answers r
-abbrev pub read_by : ℕ → Result Reel Refusal → Reel
-read_by rule r = given_or (unread rule) r
+-- nothing is read, and nothing paid: what is given beside a refusal
+abbrev pub unread : ℕ → Result Unit Refusal → Reel
+unread rule answer = record { answer = answer; paid = 0; feeder = beginning (rule_given rule) }
 
 -- `read` of a stream by a rule answers r; the area is old before it and new afterwards
-pub record ReadPromise (rule : ℕ) (stream old : List ℕ) (r : Result Reel Refusal) (new : List ℕ) : Type 0 where
-  pub refusal_is : number_of r ≡ read_refusal rule (length stream) (length old)
-  pub refused : (n : ℕ) → number_of r ≡ suc n → (read_by rule r ≡ unread rule) × (new ≡ old)
-  pub accepted : number_of r ≡ 0 → WholeReel rule stream old (read_by rule r) new
+pub record ReadPromise (rule : ℕ) (stream old : List ℕ) (r : Reel) (new : List ℕ) : Type 0 where
+  pub refusal_is : number_of r.answer ≡ read_refusal rule (length stream) (length old)
+  pub refused : (n : ℕ) → number_of r.answer ≡ suc n → (r ≡ unread rule r.answer) × (new ≡ old)
+  pub accepted : number_of r.answer ≡ 0 → WholeReel rule stream old r new
 
 -- ---- its parts
 
@@ -58,4 +54,5 @@ pub record Begins (f : Feeder) (stream area : ℕ) : Type 0 where
   pub whole-area : area ≡ major_frame
 
 pub record ReadAll (f : Feeder) (stream old : List ℕ) (r : Reel) (new : List ℕ) : Type 0 where
+  pub no_refusal : number_of r.answer ≡ 0
   pub whole : WholeReel f.tally.rule stream old r new

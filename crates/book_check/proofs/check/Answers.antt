@@ -4,4 +4,4 @@ use Rattle.book_check.proofs.Verdicts.{promised}
 use Rattle.book_check.proofs.check.Goals as goal
 
 pub returns : goal.returns
-returns c = promised c.args.bytes.now _ (λ k. omega (arith, c.type_inv.bytes k)) c.first_fault.ensures
+returns c = promised c.args.bytes.now _ (λ k. omega (arith, c.type_inv.bytes k)) (grind arith)

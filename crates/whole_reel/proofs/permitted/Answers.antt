@@ -1,5 +1,4 @@
 -- `whole_reel::permitted` meets its contract: its tests are the definition's, in that order. Assumes nothing.
-use mathlib.Core.Path.{sym}
 use native.Mathlib.Omega.{arith}
 use Rattle.whole_reel.proofs.ReadingReels.{refused-area, refused-length, not_refused}
 use Rattle.whole_reel.proofs.permitted.Goals as goal
