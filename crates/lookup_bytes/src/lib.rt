@@ -3,34 +3,15 @@
 // stands; the rule is that of `lookup::find`.
 #![tactic(auto)]
 
-ghost use Rattle.std.specs.Prelude.{◌≡◌, ◌+◌, ◌*◌, ◌/◌, ◌%◌, ◌^◌, ◌≤◌, ◌<◌, length, get_or};
+ghost use Rattle.std.specs.Prelude.{◌≡◌, ◌+◌, ◌*◌, ◌%◌, ◌^◌, ◌≤◌, ◌<◌, length, get_or};
+ghost use Rattle.lookup.specs.Answer.{Halved};
 ghost use Rattle.lookup_bytes.specs.Promise.{instants_in, FourRead, FindPromise};
 
 use base::refusal::Refusal;
-use lookup::{Found, Instants};
+use lookup::Found;
 
 // The bytes of an instant.
 const WIDTH: usize = 8;
-
-// Instants as bytes, eight each.
-#[derive(Clone, Copy)]
-struct EightBytes<'a> {
-    bytes: &'a [u8],
-}
-
-impl<'a> Instants for EightBytes<'a> {
-    ghost use Rattle.lookup_bytes.specs.Promise.{instants_in};
-
-    ghost items = { λ e. instants_in e.bytes.now };
-
-    fn count(&self) -> usize {
-        count(self.bytes)
-    }
-
-    fn entry(&self, place: usize) -> u64 {
-        instant_at(self.bytes, place)
-    }
-}
 
 // The answer of `lookup::find` on the instants that the bytes are. Refused 2: no whole number of
 // instants. Refused 12: more than 100,000.
@@ -40,14 +21,33 @@ pub fn find(instants: &[u8], wanted: u64) -> Result<Found, Refusal>
     if instants.len() % WIDTH != 0 {
         return Err(Refusal::WrongLength);
     }
-    lookup::find_among(&EightBytes { bytes: instants }, wanted)
+    if lookup::MOST_INSTANTS < instants.len() / WIDTH {
+        return Err(Refusal::ListTooLong);
+    }
+    Ok(halve(instants, wanted))
 }
 
-// How many whole instants the bytes are.
-fn count(bytes: &[u8]) -> usize
-    ensures { result ≡ length (instants_in bytes.now) }
+// Each turn is one of the rule that `lookup::find` goes by.
+fn halve(instants: &[u8], wanted: u64) -> Found
+    requires { (length instants.now % 8 ≡ 0) × (length instants.now ≤ 800000) }
+    ensures { Halved (instants_in instants.now) wanted result }
 {
-    bytes.len() / WIDTH
+    let mut low = 0;
+    let mut high = instants.len() / WIDTH;
+    let mut looks = 0;
+    while low < high {
+        let half = (low + high) / 2;
+        if instant_at(instants, half) <= wanted {
+            low = half + 1;
+        } else {
+            high = half;
+        }
+        looks += 1;
+    }
+    Found {
+        place: low.checked_sub(1),
+        looks,
+    }
 }
 
 // It is read in two halves, each a sum from its lowest byte on, so that the eight bytes are compiled

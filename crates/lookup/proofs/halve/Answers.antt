@@ -3,20 +3,19 @@ use Rattle.std.proofs.Common.{refl, ap}
 use Rattle.lookup.proofs.Halving.{turn_past, turn_before, ended}
 use Rattle.lookup.proofs.Promises.{place_is}
 use Rattle.lookup.proofs.halve.Goals as goal
-use Rattle.lookup.proofs.halve.Goals.{then-entry-wanted, else-entry-wanted}
+use Rattle.lookup.proofs.halve.Goals.{then-instants-half, else-instants-half}
 
 pub loop-low-preserved : goal.loop-low-preserved
-loop-low-preserved g c =
-    let xs = g.I.Instants.items c.args.instants.now in
+loop-low-preserved c =
+    let xs = c.args.instants.now in
     let turn = c.loop-low.invariant in
-    let read = c.entry.ensures in
-    elim c.if-entry-wanted.branch [
-      | then-entry-wanted w ↦ turn_past xs c.args.wanted turn (omega arith) refl refl (omega arith) (omega arith) (omega arith)
-      | else-entry-wanted w ↦ turn_before xs c.args.wanted turn (omega arith) refl refl (omega arith) (omega arith) (omega arith)
+    elim c.if-instants-half.branch [
+      | then-instants-half w ↦ turn_past xs c.args.wanted turn (omega arith) refl refl (omega arith) (omega arith) (omega arith)
+      | else-instants-half w ↦ turn_before xs c.args.wanted turn (omega arith) refl refl (omega arith) (omega arith) (omega arith)
     ]
 
 pub returns : goal.returns
-returns g c =
+returns c =
     record {
       low = c.loop-low.low;
       looks = c.loop-low.looks;

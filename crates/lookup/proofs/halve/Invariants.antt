@@ -4,7 +4,7 @@ use Rattle.lookup.proofs.Halving.{Turn}
 use Rattle.lookup.proofs.halve.Given as goal
 
 abbrev pub invariant-loop-low : goal.invariant-loop-low
-invariant-loop-low g l = Turn (g.I.Instants.items l.instants) l.wanted l.low l.high l.looks
+invariant-loop-low l = Turn l.instants l.wanted l.low l.high l.looks
 
 abbrev pub decreases-loop-low : goal.decreases-loop-low
-decreases-loop-low g l = l.high - l.low
+decreases-loop-low l = l.high - l.low
