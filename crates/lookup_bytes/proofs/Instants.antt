@@ -3,7 +3,6 @@
 use mathlib.Core.Path.{◌≡◌, refl, sym, ap, ◌∙◌}
 use mathlib.Core.List.{List, [], ◌∷◌, map}
 use Rattle.std.proofs.Common.{Result, Err}
-use Rattle.std.proofs.lemmas.List.{get_or_past}
 use Prim.Native.Nat.{ℕ, zero, suc, ◌+◌, ◌*◌, ◌/◌, ◌%◌, ◌^◌, ◌≤◌, ◌<◌}
 use native.Mathlib.Omega.{arith}
 use lib.ListN.{length, get_or}
@@ -45,9 +44,6 @@ module _ (bytes : List ℕ) where
   pub count_is : length bytes / 8 ≡ length (instants_in bytes)
   unfolding instants_in rows
   count_is = sym (map-length (rows 8 bytes) ∙ tabulate-length (row 8 bytes) 0 (length bytes / 8))
-
-  pub past-end : (k : ℕ) → length bytes / 8 ≤ k → 0 ≡ get_or (instants_in bytes) k 0
-  past-end k h = sym (get_or_past (instants_in bytes) k 0 (omega (arith, count_is)))
 
   module _ (k : ℕ) (inside : 8 * k + 8 ≤ length bytes) where
     byte_of : (i j : ℕ) → i < 8 → j ≡ 8 * k + i → get_or (row 8 bytes k) i 0 ≡ get_or bytes j 0
