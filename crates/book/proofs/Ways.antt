@@ -50,6 +50,13 @@ module _ (b : List ℕ) where
   unfolding first_fault accepted
   view_answer = first-answer (book_faults b)
 
+  -- of any answer that is the first fault
+  pub number_by_first : {r : Result Unit Fault} → r ≡ first_fault b → fault_number r ≡ view_refusal b
+  number_by_first e = ap fault_number e ∙ view_number
+
+  pub answer_by_first : {r : Result Unit Fault} → r ≡ first_fault b → without_entry r ≡ accepted b
+  answer_by_first e = ap without_entry e ∙ view_answer
+
   -- a book that is accepted has no number of a refusal
   pub accepted-none : accepted b ≡ Ok tt → view_refusal b ≡ 0
   unfolding accepted view_refusal

@@ -23,12 +23,12 @@ module _ (cycle : List ℕ) (y : ℕ) (d : Result ℕ Refusal) (is : d ≡ insta
       let answer = refused-first (dated_lines cycle y 0) (i cycle y 0) (Ok given) e (Err g) (sym is ∙ f) h in
       record { answer = answer; refusal_is = ap number_of answer ∙ numbered (dated_lines cycle y 0) given; in_step = tt; exact = tt }
 
-  pub drift_given : (t : ℕ) (c : List ℕ) (a : GyroDrift) → d ≡ Ok t → Dated cycle y 0 t → c ≡ column_of cycle 0 → DriftIn t c a
-      → GyroDriftPromise cycle y (Ok a)
+  pub drift_given : (s t : ℕ) (c : List ℕ) (a : GyroDrift) → d ≡ Ok s → Dated cycle y 0 s → t ≡ i cycle y 0 → c ≡ column_of cycle 0
+      → DriftIn t c a → GyroDriftPromise cycle y (Ok a)
   unfolding gyro_drift_of
-  drift_given t c a e known f h =
-      let same : DriftIn (i cycle y 0) (column_of cycle 0) a = rw (sym known.is, f) at h in
-      let answer = ap Ok same.answer ∙ left_over (dated_lines cycle y 0) (i cycle y 0) (Ok given) t (sym is ∙ e) in
+  drift_given s t c a e known timed f h =
+      let same : DriftIn (i cycle y 0) (column_of cycle 0) a = rw (timed, f) at h in
+      let answer = ap Ok same.answer ∙ left_over (dated_lines cycle y 0) (i cycle y 0) (Ok given) s (sym is ∙ e) in
       record {
         answer = answer;
         refusal_is = ap number_of answer ∙ numbered (dated_lines cycle y 0) given;

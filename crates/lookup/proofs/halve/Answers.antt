@@ -20,5 +20,5 @@ returns c =
       low = c.loop-low.low;
       looks = c.loop-low.looks;
       rule = ended _ _ c.loop-low.invariant (omega arith);
-      found_is = ap (λ p. record { place = p; looks = c.loop-low.looks }) (place_is _ c.loop-low.looks _ c.checked_sub.ensures);
+      found_is = ap (λ p. record { place = p; looks = c.loop-low.looks }) (place_is _ c.loop-low.looks _ (grind arith));
     }

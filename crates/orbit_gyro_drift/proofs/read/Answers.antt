@@ -1,4 +1,5 @@
 -- `orbit_gyro_drift::read` meets its contract. Assumes nothing.
+use native.Mathlib.Omega.{arith}
 use Rattle.std.proofs.Common.{sym, ◌∙◌}
 use Rattle.cycle_records.proofs.Known.{to-dated}
 use Rattle.cycle_columns.proofs.Gathering.{column-given}
@@ -15,5 +16,5 @@ returns c =
     let a = c.args in
     let known = to-dated a.body.now a.year 0 _ (sym c.instant_in_year.ensures ∙ c.in_ok-instant.was) in
     let word72 = column-given a.body.now 0 known.cycle c.column-column.ensures.0 in
-    drift_given a.body.now a.year _ c.instant_in_year.ensures _ _ _ c.in_ok-instant.was known word72
+    drift_given a.body.now a.year _ c.instant_in_year.ensures _ _ _ _ c.in_ok-instant.was known (omega (arith, known.is)) word72
     c.in_column.ensures

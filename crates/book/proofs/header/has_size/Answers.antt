@@ -1,5 +1,5 @@
 -- `book::header::has_size` meets its contract. Assumes nothing.
-use mathlib.Core.Path.{◌∙◌}
+use native.Mathlib.Omega.{arith}
 use Rattle.book.proofs.Headers.{too_short, long_enough}
 use Rattle.book.proofs.header.has_size.Goals as goal
 
@@ -7,4 +7,4 @@ pub returns-then-bytes-lt-HEADER : goal.returns-then-bytes-lt-HEADER
 returns-then-bytes-lt-HEADER c = too_short c.args.bytes.now c.if-bytes-lt-HEADER.true
 
 pub returns : goal.returns
-returns c = c.is_sized.ensures ∙ long_enough c.args.bytes.now c.if-bytes-lt-HEADER.false
+returns c = let long = long_enough c.args.bytes.now c.if-bytes-lt-HEADER.false in grind arith
