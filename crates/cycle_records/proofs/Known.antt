@@ -52,7 +52,7 @@ module _ (body : List ℕ) (y k : ℕ) where
     pub dated_first : (r : Refusal) (out : Result ℕ Refusal) → p ≡ Err r → IsErrAnd out (λ (s : Refusal). s ≡ r) → out ≡ instant_answer
     dated_first r out e h = refused-first (cycle_lines body y k) tt (answered Err late (Ok i)) r out (sym is ∙ e) h ∙ joined
 
-    pub dated_last : (t : ℕ) (b : Bool) → p ≡ Ok tt → t ≡ i → b ≡ is_writable y t
+    pub dated_last : (t : ℕ) (b : Bool) → p ≡ Ok tt → t ≡ i → b ≡ is_writable y i
         → answered Err (TimeOutOfRange when not b ∷ []) (Ok t) ≡ instant_answer
     dated_last t b e f g = rw (g, f) (left_over (cycle_lines body y k) tt (answered Err late (Ok i)) tt (sym is ∙ e) ∙ joined)
 

@@ -87,8 +87,8 @@ module _ (h : List ℕ) (bytes : (i : ℕ) → get_or h i 0 < 256) where
     is_left : s ≡ left
     is_left = e ∙ ap (combined syndromes) p
 
-    pub check_told : CheckPromise h (Ok (eqb s 0))
-    check_told = check_promise _ (rw (eq-eqb (length h) 8 eight, is_left))
+    pub check_told : (m : ℕ) → m ≡ 0 → CheckPromise h (Ok (eqb s m))
+    check_told m z = check_promise _ (rw (eq-eqb (length h) 8 eight, z, is_left))
 
   -- ---- repair
   module _ (near : Option (List ℕ)) (nearest : Near (symbols h) near) where

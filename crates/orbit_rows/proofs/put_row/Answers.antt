@@ -1,6 +1,15 @@
 -- `orbit_rows::put_row` meets its contract: one part behind the other. Assumes nothing.
+use native.Mathlib.Omega.{arith}
+use Rattle.std.proofs.Common.{◌≡◌, sym, List, ℕ}
+use Rattle.command.specs.Text.{Adds}
 use Rattle.command.proofs.TextLaws.{adds_append}
+use Rattle.orbit_rows.specs.declared.Row.{Row}
+use Rattle.orbit_rows.specs.Rows.{end_text}
 use Rattle.orbit_rows.proofs.put_row.Goals as goal
+
+-- the end of a line has the number n, however that is come by
+ended : {old new : List ℕ} {at end : ℕ} (row : Row) (m n : ℕ) → m ≡ n → Adds old at (end_text row m) new end → Adds old at (end_text row n) new end
+ended row m n e h = rw (sym e) h
 
 pub returns-in-Ok : goal.returns-in-Ok
 returns-in-Ok g c =
@@ -8,4 +17,4 @@ returns-in-Ok g c =
 
 pub returns-in-Err : goal.returns-in-Err
 returns-in-Err g c =
-    rw c.in-Err.is (adds_append c.put_start-begun.ensures c.put_end-in-Err.ensures)
+    rw c.in-Err.is (adds_append c.put_start-begun.ensures (ended c.args.row _ c.in-Err.number (omega arith) c.put_end-in-Err.ensures))

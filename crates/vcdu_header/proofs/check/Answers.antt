@@ -15,4 +15,4 @@ pub returns : goal.returns
 returns c =
     let header = c.args.header.now in
     let bytes : (i : ℕ) → get_or header i 0 < 256 = λ i. omega (arith, c.type_inv.header i) in
-    check_told header bytes _ _ c.if-header-ne-HEADER.false c.pack-word.ensures c.syndrome.ensures
+    check_told header bytes _ _ c.if-header-ne-HEADER.false c.pack-word.ensures c.syndrome.ensures _ (omega arith)
