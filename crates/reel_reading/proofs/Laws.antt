@@ -88,10 +88,10 @@ module _ (f : Feeder) (piece : List ℕ) (ends : Bool) (old : List ℕ) (r : Res
   pub steps-by_own_sync : StepPromise false f piece old r new
   steps-by_own_sync = record { refusal_is = p.refusal_is; within = p.within; went = relock_went }
 
--- what a step promises is promised of any answer that is its own
-pub step_as : {s t : Bool} {f : Feeder} {piece old new : List ℕ} {q r : Result Relocked Refusal} → s ≡ t → q ≡ r → StepPromise t f piece old r new
-    → StepPromise s f piece old q new
-step_as e d p = rw (e, d) p
+-- what a step promises of an answer holds of any equal to it
+module _ {s t : Bool} (way : s ≡ t) {q r : Result Relocked Refusal} (same : q ≡ r) where
+  pub step_as : {f : Feeder} {piece old new : List ℕ} → StepPromise t f piece old r new → StepPromise s f piece old q new
+  step_as p = rw (way, same) p
 
 taken_is : (c : TakeCall) → taken c ≡ take (answer c).taken c.piece
 unfolding taken

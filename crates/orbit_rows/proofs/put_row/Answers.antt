@@ -7,9 +7,10 @@ use Rattle.orbit_rows.specs.declared.Row.{Row}
 use Rattle.orbit_rows.specs.Rows.{end_text}
 use Rattle.orbit_rows.proofs.put_row.Goals as goal
 
--- the end of a line has the number n, however that is come by
-ended : {old new : List ℕ} {at end : ℕ} (row : Row) (m n : ℕ) → m ≡ n → Adds old at (end_text row m) new end → Adds old at (end_text row n) new end
-ended row m n e h = rw (sym e) h
+-- the end of a line with a number is that with any number equal to it
+module _ (row : Row) (m n : ℕ) (same : m ≡ n) {old new : List ℕ} {at end : ℕ} where
+  ended : Adds old at (end_text row m) new end → Adds old at (end_text row n) new end
+  ended h = rw (sym same) h
 
 pub returns-in-Ok : goal.returns-in-Ok
 returns-in-Ok g c =
@@ -17,4 +18,5 @@ returns-in-Ok g c =
 
 pub returns-in-Err : goal.returns-in-Err
 returns-in-Err g c =
-    rw c.in-Err.is (adds_append c.put_start-begun.ensures (ended c.args.row _ c.in-Err.number (omega arith) c.put_end-in-Err.ensures))
+    let end = ended c.args.row _ c.in-Err.number (omega arith) c.put_end-in-Err.ensures in
+    rw c.in-Err.is (adds_append c.put_start-begun.ensures end)
