@@ -1,5 +1,5 @@
 -- The entries and bodies that a book hands out: their lengths, and the instant that an entry holds. Assumes nothing.
-use Rattle.std.proofs.Common.{◌≡◌, sym, ap, ◌∙◌, List, ℕ, ◌+◌, ◌*◌, ◌<◌, length, take, drop, Ok, Err}
+use Rattle.std.proofs.Common.{◌≡◌, refl, sym, ap, ◌∙◌, List, ℕ, ◌+◌, ◌*◌, ◌<◌, length, take, drop, Result, Ok, Err, IsOk}
 use native.Mathlib.Omega.{arith}
 use lib.ListN.{length-drop}
 use lib.Seq.{take-take, length-take-le}
@@ -15,8 +15,8 @@ use Rattle.book.specs.Header.{has_size}
 use Rattle.book.proofs.Answered.{stops}
 use Rattle.book.proofs.Headers.{sizes}
 use Rattle.book.proofs.Holding.{has_size_lem}
-use Rattle.book_parts.specs.Parts.{part_lines, place, instant_told, body_place, try_entry_place, Entered, IsPart, HandsOut}
-use Rattle.book_parts.proofs.Places.{There, refused_place, given_place}
+use Rattle.book_parts.specs.Parts.{part_lines, place, instant_told, body_place, try_entry_place, try_body_place, Entered, IsPart, HandsOut}
+use Rattle.book_parts.proofs.Places.{There, body-there, refused_place, given_place, is_given}
 
 -- an accepted book has the entries that it says
 pub entered : (b : List ℕ) → view_refusal b ≡ 0 → (i : ℕ) → i < cycles_said b → Entered b i
@@ -76,3 +76,15 @@ module _ (b : List ℕ) (i : ℕ) (e : Entered b i) where
   pub body_bytes : (l : List ℕ) → l ≡ bytes_at (body_place b i).start (body_place b i).length b → l ≡ body_at b i
   unfolding body_at body_place
   body_bytes l part = rw (e.sized, lt-leb (cycles_said b) i e.below) at part
+
+-- ---- a body that may be refused
+module _ (s : Bor (List ℕ)) (i : ℕ) (e : Entered s.now i) where
+  body_is : try_body_place s.now i ≡ Ok (place (body_start (cycles_said s.now) i) 65536)
+  body_is = sym (body-there s.now i (is_there s.now i e) (body_start (cycles_said s.now) i) refl).is
+
+  pub body-given : (r : Result (Bor (List ℕ)) Refusal) → HandsOut r s (try_body_place s.now i) → IsOk r
+  body-given r = is_given s (try_body_place s.now i) (place (body_start (cycles_said s.now) i) 65536) r body_is
+
+  pub try_body_bytes : (r : Bor (List ℕ)) → HandsOut (Ok r) s (try_body_place s.now i) → r.now ≡ body_at s.now i
+  unfolding body_at
+  try_body_bytes r h = (rw body_is at h).contents_are

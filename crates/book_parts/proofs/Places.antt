@@ -1,5 +1,5 @@
 -- The parts of a book: each way out of the entries that hand out parts or tell where they lie. Assumes nothing.
-use Rattle.std.proofs.Common.{◌≡◌, refl, sym, ap, ◌∙◌, Bool, true, false, cond, not, List, ℕ, ◌+◌, ◌*◌, ◌≤◌, ◌<◌, leb, length, Result, Ok, Err, IfOk}
+use Rattle.std.proofs.Common.{◌≡◌, refl, sym, ap, ◌∙◌, Bool, true, false, cond, not, List, ℕ, ◌+◌, ◌*◌, ◌≤◌, ◌<◌, leb, length, Result, Ok, Err, IsOk, IfOk}
 use Rattle.std.specs.Result.{result_unwrap_or}
 use native.Mathlib.Omega.{arith}
 use borrow.Author.Tests.{leb-false, le-leb, lt-leb, not-false}
@@ -117,6 +117,13 @@ module _ (s : Bor (List ℕ)) where
   pub given_place : (p : Result Place Refusal) (r : Bor (List ℕ)) → HandsOut (Ok r) s p → (q : Place) × (p ≡ Ok q) × IsPart r s q
   given_place (Ok q) r = λ h. (q, refl, h)
   given_place (Err e) r = λ h. absurd h
+
+  -- where there is a place, a part is handed out
+  pub is_given : (p : Result Place Refusal) (q : Place) (r : Result (Bor (List ℕ)) Refusal) → p ≡ Ok q → HandsOut r s p → IsOk r
+  is_given (Ok p) q (Ok r) = λ e h. refl
+  is_given (Ok p) q (Err f) = λ e h. absurd h
+  is_given (Err p) q (Ok r) = λ e h. absurd h
+  is_given (Err p) q (Err f) = λ e h. cc
 
 -- the pointer of a part that starts k on
 pub starts : (k o : ℕ) → by_byte k o ≡ o + k
