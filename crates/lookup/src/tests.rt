@@ -38,10 +38,12 @@ fn finds_the_last_at_most(rt: HostRuntime) {
         (49, Some(3), 3),
         (u64::MAX, Some(4), 2),
     ] {
+        let found = Ok(Found { place, looks });
+        assert_eq!(rt; find_among(&list, wanted), found, "{wanted} in a list");
         assert_eq!(rt;
             find_among(&short, wanted),
-            Ok(Found { place, looks }),
-            "wanted {wanted}"
+            found,
+            "{wanted} in short instants"
         );
     }
 }
