@@ -1,5 +1,6 @@
 -- The entries and bodies that a book hands out: their lengths, and the instant that an entry holds. Assumes nothing.
-use Rattle.std.proofs.Common.{◌≡◌, refl, sym, ap, ◌∙◌, List, ℕ, ◌+◌, ◌*◌, ◌<◌, length, take, drop, Result, Ok, Err, IsOk}
+use Rattle.std.proofs.Common.{◌≡◌, refl, sym, ap, ◌∙◌, List, ℕ, ◌+◌, ◌*◌, ◌<◌, length, take, drop}
+use Rattle.std.proofs.Common.{Result, Ok, Err, IsOk}
 use native.Mathlib.Omega.{arith}
 use lib.ListN.{length-drop}
 use lib.Seq.{take-take, length-take-le}
@@ -15,7 +16,8 @@ use Rattle.book.specs.Header.{has_size}
 use Rattle.book.proofs.Answered.{stops}
 use Rattle.book.proofs.Headers.{sizes}
 use Rattle.book.proofs.Holding.{has_size_lem}
-use Rattle.book_parts.specs.Parts.{part_lines, place, instant_told, body_place, try_entry_place, try_body_place, Entered, IsPart, HandsOut}
+use Rattle.book_parts.specs.Parts.{part_lines, place, instant_told, body_place, Entered, IsPart}
+use Rattle.book_parts.specs.Parts.{try_entry_place, try_body_place, HandsOut}
 use Rattle.book_parts.proofs.Places.{There, body-there, refused_place, given_place, is_given}
 
 -- an accepted book has the entries that it says

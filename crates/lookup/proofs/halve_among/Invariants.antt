@@ -1,4 +1,5 @@
--- `lookup::halve_among` meets its contract: at each turn halving from here on is the whole search, with the looks so far added. Assumes nothing.
+-- `lookup::halve_among` meets its contract: at each turn halving from here on is the whole search,
+-- with the looks so far added. Assumes nothing.
 use Prim.Native.Nat.{◌-◌}
 use Rattle.lookup.proofs.Halving.{Turn}
 use Rattle.lookup.proofs.halve_among.Given as goal
